@@ -1,0 +1,2 @@
+-- Laws of the signal functions.
+pub mod Folding

@@ -1,0 +1,3 @@
+-- What the signal functions compute. Definitions only.
+pub mod Goertzel
+pub mod Spectrum

@@ -1,0 +1,200 @@
+// Replays the Rust's answers to the signal functions and the spectrum calls. The file `vectors` has long records.
+// Operations 0 and 1: the power of the payload's samples at 1,500 and 2,300 Hz, whose pattern is x.
+// Operation 2: the window around centre a of the first y numbers of the payload. The last 16 are the real parts of its first
+// pairs, and every other number is 0.
+// Operation 3: the decision on the payload's 258 numbers at the shift with the pattern a. x is 1 for yes.
+use libc::STDOUT_FILENO;
+use probe::ProbeAnswer;
+use probe::WindowAnswer;
+use replay::Long;
+ghost use mathlib.Core.Path.{_≡_};
+ghost use Prim.Native.Nat.{_+_, _≤_};
+ghost use lib.ListN.{length};
+
+struct Tally {
+    seen: u64,
+    wrong: u64,
+    more: bool,
+}
+
+// The pattern that number i of a window must have, where the real parts start at place `at`.
+fn wanted(bytes: &[u8], at: usize, i: usize) -> u32
+    requires { ⌜ at + 64 ≤ length (now bytes) ⌝ }
+{
+    if i < 32 {
+        if i % 2 == 0 {
+            return replay::half_word(bytes, at + i * 2);
+        }
+    }
+    0
+}
+
+fn same_window(buffer: &[f32; 512], bytes: &[u8], at: usize) -> bool
+    requires { ⌜ at + 64 ≤ length (now bytes) ⌝ }
+{
+    let mut i: usize = 0;
+    while i < 512 {
+        if !replay::same_bits32(buffer[i], wanted(bytes, at, i)) {
+            return false;
+        }
+        i += 1;
+    }
+    true
+}
+
+fn window_right(sound: &[f32], centre: u64, bytes: &[u8], at: usize) -> bool
+    requires { ⌜ at + 64 ≤ length (now bytes) ⌝ }
+{
+    let mut buffer = [1.0f32; 512];
+    let answer: WindowAnswer = probe::sync_window(sound, centre, &mut buffer);
+    match answer {
+        WindowAnswer::Filled => same_window(&buffer, bytes, at),
+        WindowAnswer::Refused(_) => false,
+    }
+}
+
+fn decision_right(spectrum: &[f32], shift: f64, yes: u64) -> bool {
+    match probe::has_sync_at(spectrum, shift) {
+        ProbeAnswer::Yes => yes == 1,
+        ProbeAnswer::No => yes == 0,
+        ProbeAnswer::Refused(_) => false,
+    }
+}
+
+// The window's record: y samples, then sixteen real parts.
+fn window_record(numbers: &[f32], a: u64, y: u64, bytes: &[u8]) -> bool
+    requires { ⌜ length (now numbers) ≡ 512 ⌝ }
+{
+    if y > 496 {
+        return false;
+    }
+    let size: usize = y as usize;
+    if bytes.len() != size * 4 + 64 {
+        return false;
+    }
+    window_right(&numbers[..size], a, bytes, size * 4)
+}
+
+// Whether operation `op` gives the answer expected. An operation that there is not gives none.
+fn right(op: u64, a: u64, x: u64, y: u64, bytes: &[u8]) -> bool {
+    let mut numbers = [0.0f32; 512];
+    let count: usize = replay::floats32(bytes, &mut numbers);
+    match op {
+        0 => replay::same_bits(dsp::goertzel_1500(&numbers[..count]), x),
+        1 => replay::same_bits(dsp::goertzel_2300(&numbers[..count]), x),
+        2 => window_record(&numbers, a, y, bytes),
+        3 => decision_right(&numbers[..count], replay::float_of(a), x),
+        _ => false,
+    }
+}
+
+// Reads the payload of a record into `bytes`, and says whether its answer is right.
+fn answered(fd: i32, op: u64, a: u64, x: u64, y: u64, bytes: &mut [u8]) -> bool {
+    if replay::payload(fd, bytes) {
+        right(op, a, x, y, bytes)
+    } else {
+        false
+    }
+}
+
+// The same of a record of n bytes. No record is longer than 2,048.
+fn record_right(fd: i32, op: u64, a: u64, x: u64, y: u64, n: u64) -> bool {
+    if n > 2048 {
+        return false;
+    }
+    let size: usize = n as usize;
+    let mut bytes = [0u8; 2048];
+    answered(fd, op, a, x, y, &mut bytes[..size])
+}
+
+fn count(counts: &mut [u64; 4], op: u64) {
+    if op < 4 {
+        let i = op as usize;
+        counts[i] = std::num::wrapping_add_u64(counts[i], 1);
+    }
+}
+
+// Takes one record. One that is cut short is wrong.
+fn one(fd: i32, t: Tally, counts: &mut [u64; 4]) -> Tally {
+    let seen = std::num::wrapping_add_u64(t.seen, 1);
+    let wrong = std::num::wrapping_add_u64(t.wrong, 1);
+    match replay::next_long(fd) {
+        Long::End => Tally {
+            seen: t.seen,
+            wrong: t.wrong,
+            more: false,
+        },
+        Long::Cut => Tally {
+            seen: seen,
+            wrong: wrong,
+            more: false,
+        },
+        Long::Case {
+            op,
+            a,
+            b: _,
+            c: _,
+            x,
+            y,
+            z: _,
+            n,
+        } => {
+            count(counts, op);
+            if record_right(fd, op, a, x, y, n) {
+                Tally {
+                    seen: seen,
+                    wrong: t.wrong,
+                    more: true,
+                }
+            } else {
+                Tally {
+                    seen: seen,
+                    wrong: wrong,
+                    more: true,
+                }
+            }
+        }
+    }
+}
+
+fn all(fd: i32, counts: &mut [u64; 4]) -> Tally {
+    let mut t = Tally {
+        seen: 0,
+        wrong: 0,
+        more: true,
+    };
+    let mut turns = u64::MAX;
+    while turns > 0 && t.more {
+        t = one(fd, t, counts);
+        turns -= 1;
+    }
+    t
+}
+
+// How many of one operation there were, on a line.
+fn line(name: &[u8], n: u64) {
+    io::write_all(STDOUT_FILENO, name);
+    io::write_all(STDOUT_FILENO, b" ");
+    io::print_decimal(STDOUT_FILENO, n);
+    io::write_all(STDOUT_FILENO, b"\n");
+}
+
+fn main() {
+    let path = b"vectors";
+    let fd = os::open_read(path);
+    if fd < 0 {
+        os::fail(path);
+        return;
+    }
+    let mut counts = [0u64; 4];
+    let t = all(fd, &mut counts);
+    libc::close(fd);
+    line(b"goertzel_1500", counts[0]);
+    line(b"goertzel_2300", counts[1]);
+    line(b"sync_window", counts[2]);
+    line(b"has_sync_at", counts[3]);
+    io::print_decimal(STDOUT_FILENO, t.seen);
+    io::write_all(STDOUT_FILENO, b" vectors, ");
+    io::print_decimal(STDOUT_FILENO, t.wrong);
+    io::write_all(STDOUT_FILENO, b" wrong\n");
+}

@@ -1,0 +1,22 @@
+-- What the proofs of several functions use.
+pub mod Order
+pub mod Unsigned
+pub mod Monotone
+pub mod Whole
+pub mod Clamping
+pub mod Unique
+pub mod Closest
+pub mod Ceil
+pub mod Pack
+pub mod View
+pub mod Narrowing
+pub mod Rounding
+pub mod Sticky
+pub mod Ends
+pub mod Cutting
+pub mod Limbs
+pub mod Placing
+pub mod Sums
+pub mod Closing
+pub mod Combining
+pub mod Fusing

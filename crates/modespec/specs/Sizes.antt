@@ -1,0 +1,85 @@
+-- What follows from a mode's row (01-scope.md, "Modes", "Fold and pulse window", "Slant and rate", "Start search"): lines, flags and columns.
+-- The float steps are those of the functions of modespec.rs, sync.rs and sync_start.rs that are named here, in their order. Definitions only.
+use Prim.Native.Nat.{ℕ, _+_, _/_, max}
+use mathlib.Core.Bool.{false}
+use lib.IntN.{pos}
+use lib.Ieee.{Float, fin, binary64, add, sub, mul, div, neg, toUnsigned}
+use Rattle.ieee.specs.Numbers.{whole}
+use Rattle.ieee.specs.Casts.{ceilUnsigned, roundAway, clamp}
+use Rattle.modespec.specs.declared.ModeSpec.{ModeSpec}
+use Rattle.modespec.specs.declared.ChannelLayout.{ChannelLayout}
+use Rattle.modespec.specs.declared.ChannelLayout.the-variants.{PdYcbcr, RobotYuv, RgbSequential, Monochrome}
+use Rattle.modespec.specs.declared.SyncPosition.{SyncPosition}
+use Rattle.modespec.specs.declared.SyncPosition.the-variants.{LineStart, Scottie}
+
+-- 11,025 Hz, the working rate
+abbrev pub workingRate : Float
+workingRate = fin false 11025 (pos 0)
+
+-- `radio_lines`: the lines sent for a picture. PD sends two image rows in one.
+abbrev pub radioLinesBy : ChannelLayout → ℕ → ℕ
+radioLinesBy PdYcbcr n = n / 2
+radioLinesBy RobotYuv n = n
+radioLinesBy RgbSequential n = n
+radioLinesBy Monochrome n = n
+
+unfoldable pub radioLines : ModeSpec → ℕ
+radioLines spec = radioLinesBy (spec .«channel_layout») (spec .«image_lines»)
+
+-- -(pixels × pixel seconds) / 2 + 2 × porch seconds
+unfoldable pub scottieCorrection : ModeSpec → Float
+unfolding add mul div neg
+scottieCorrection spec =
+    add binary64 (div binary64 (neg (mul binary64 (whole (spec .«line_pixels»)) (spec .«pixel_seconds»))) (fin false 1 (pos 1)))
+    (mul binary64 (fin false 1 (pos 1)) (spec .«porch_seconds»))
+
+-- `skip_correction_seconds`
+abbrev pub skipCorrectionBy : SyncPosition → ModeSpec → Float
+skipCorrectionBy LineStart spec = fin false 0 (pos 0)
+skipCorrectionBy Scottie spec = scottieCorrection spec
+
+unfoldable pub skipCorrection : ModeSpec → Float
+unfolding scottieCorrection
+skipCorrection spec = skipCorrectionBy (spec .«sync_position») spec
+
+-- `pulse_offset_seconds`: from a line's start to its pulse. In Scottie L / 2 - correction
+abbrev pub pulseOffsetBy : SyncPosition → ModeSpec → Float
+pulseOffsetBy LineStart spec = fin false 0 (pos 0)
+pulseOffsetBy Scottie spec = sub binary64 (div binary64 (spec .«line_seconds») (fin false 1 (pos 1))) (skipCorrection spec)
+
+unfoldable pub pulseOffset : ModeSpec → Float
+unfolding sub div skipCorrection
+pulseOffset spec = pulseOffsetBy (spec .«sync_position») spec
+
+-- `window_lines`: ceiling(2 / L), at least 8
+unfoldable pub windowLines : ModeSpec → ℕ
+unfolding div ceilUnsigned
+windowLines spec = max 8 (ceilUnsigned 64 (div binary64 (fin false 1 (pos 1)) (spec .«line_seconds»)))
+
+-- `line_samples`: L × 11,025
+unfoldable pub lineSamples : ModeSpec → Float
+unfolding mul
+lineSamples spec = mul binary64 (spec .«line_seconds») workingRate
+
+-- w, `window_probes`: ceiling(window lines × (L × 11,025) / 4) + 1 flags
+unfoldable pub windowProbes : ModeSpec → ℕ
+unfolding mul div ceilUnsigned windowLines lineSamples
+windowProbes spec = ceilUnsigned 64 (div binary64 (mul binary64 (whole (windowLines spec)) (lineSamples spec)) (fin false 1 (pos 2))) + 1
+
+-- P: radio lines × L × rate / 4, rounded up
+unfoldable pub imageProbes : ModeSpec → Float → ℕ
+unfolding mul div ceilUnsigned radioLines
+imageProbes spec rate =
+    ceilUnsigned 64 (div binary64 (mul binary64 (mul binary64 (whole (radioLines spec)) (spec .«line_seconds»)) rate) (fin false 1 (pos 2)))
+
+-- W, the line width: cut(L / S × 4), at least 1
+unfoldable pub lineWidth : ModeSpec → ℕ
+unfolding mul div toUnsigned
+lineWidth spec = max 1 (toUnsigned 64 (mul binary64 (div binary64 (spec .«line_seconds») (spec .«sync_seconds»)) (fin false 1 (pos 2))))
+
+-- `sync_pulse_columns`: S / L × n rounded, held between 1 and n (n = 0 gives 1)
+unfoldable pub pulseColumns : ModeSpec → ℕ → ℕ
+unfolding mul div roundAway clamp toUnsigned
+pulseColumns spec n =
+    toUnsigned 64
+    (clamp (roundAway binary64 (mul binary64 (div binary64 (spec .«sync_seconds») (spec .«line_seconds»)) (whole n))) (fin false 1 (pos 0)) (whole (max n 1)))

@@ -1,0 +1,4 @@
+-- What the two spectrum calls answer. Definitions only.
+pub mod Refusals
+pub mod Window
+pub mod Decision

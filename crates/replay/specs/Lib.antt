@@ -1,0 +1,2 @@
+-- What the readers of vector files compute. Definitions only.
+pub mod Words

@@ -1,0 +1,23 @@
+//! Facts and vectors taken from the Rust. Everything here is deterministic:
+//! one generator of numbers with fixed seeds, nothing from outside.
+
+pub mod again;
+pub mod dsp;
+pub mod facts;
+pub mod find_sync;
+pub mod fused;
+pub mod ieee;
+pub mod inner;
+pub mod live;
+pub mod modes;
+pub mod plain;
+pub mod pulse;
+pub mod record;
+pub mod rng;
+pub mod scene;
+pub mod search;
+pub mod session;
+pub mod shaped;
+pub mod start;
+pub mod tally;
+pub mod train;
