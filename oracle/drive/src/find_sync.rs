@@ -8,6 +8,7 @@ use crate::train::{bursts, set, Train};
 use slowrx::modespec::access::spec;
 use slowrx::modespec::ModeSpec;
 use slowrx::sync::access::{self as sync, Found, Scratch};
+use std::collections::HashSet;
 
 /// Longest list of flags, so that a program can hold it.
 pub const LONGEST: usize = 1_000_000;
@@ -54,7 +55,7 @@ struct Driver {
 }
 
 impl Driver {
-    fn put(&mut self, flags: &[bool], rate: f64, mode: usize) {
+    fn put(&mut self, flags: &[bool], rate: f64, mode: usize) -> Found {
         let row = spec(mode);
         let found = sync::find_sync(flags, rate, row, &mut self.scratch);
         let whole = sync::image_probes(row, rate);
@@ -70,6 +71,7 @@ impl Driver {
         let x = [found.rate.to_bits(), slant, found.skip as u64];
         self.records.long(0, a, x, &words(&runs(flags)));
         self.note(flags.len(), rate, mode, found, &passes);
+        found
     }
 
     fn note(&mut self, taken: usize, rate: f64, mode: usize, found: Found, passes: &Passes) {
@@ -138,6 +140,11 @@ pub fn vectors() -> Result<Records, String> {
             "quality 0",
             "quality inside",
             "quality 0.9 and more",
+            "drawn by (y + x / W) x L alone",
+            "drawn by y x L + x / W x L alone: not at all",
+            "folded by y x L + x / 700 x L alone",
+            "folded by (y + x / 700) x L alone: not at all",
+            "new rate whose last bit hangs on the order of steps",
         ],
     );
     for mode in 0..MODES {
@@ -155,6 +162,10 @@ pub fn vectors() -> Result<Records, String> {
         sparse(&mut driver, &mut rng, mode);
     }
     noise(&mut driver, &mut rng);
+    for mode in 0..MODES {
+        forms(&mut driver, mode);
+        orders(&mut driver, &mut rng, mode);
+    }
     driver.tally.report()?;
     Ok(driver.records)
 }
@@ -238,5 +249,116 @@ fn noise(driver: &mut Driver, rng: &mut Rng) {
         let mut flags = silent(8, 8_000.0);
         flags.fill_with(|| rng.permille(parts));
         driver.put(&flags, 8_000.0, 8);
+    }
+}
+
+/// The flags that are read for lines and `columns` of them, if the time of a
+/// line and a part of it is this.
+fn read_at(
+    mode: usize,
+    rate: f64,
+    columns: usize,
+    time: fn(f64, f64, f64) -> f64,
+) -> HashSet<usize> {
+    let row = spec(mode);
+    let lines = 0..row.image_lines as usize;
+    let all = lines.flat_map(|y| (0..columns).map(move |x| (y, x)));
+    let flag = |(y, x)| {
+        let part = x as f64 / columns as f64;
+        (time(y as f64, part, row.line_seconds) * rate / 4.0) as usize
+    };
+    all.map(flag).collect()
+}
+
+/// A pass draws at (y + x / W) x L and the fold reads at y x L + x / 700 x L.
+/// The two forms read other flags where the exact time is that of a flag:
+/// lists of flags that only one of them reads.
+fn forms(driver: &mut Driver, mode: usize) {
+    let joined: fn(f64, f64, f64) -> f64 = |y, part, length| (y + part) * length;
+    let apart: fn(f64, f64, f64) -> f64 = |y, part, length| y * length + part * length;
+    let width = sync::line_width(spec(mode));
+    for rate in [8_000.0, 11_025.0, 16_000.0, 48_000.0] {
+        let limit = silent(mode, rate).len();
+        let drawn = read_at(mode, rate, width, joined);
+        let not_drawn = read_at(mode, rate, width, apart);
+        let folded = read_at(mode, rate, 700, apart);
+        let not_folded = read_at(mode, rate, 700, joined);
+        let mut put = |wanted: &HashSet<usize>, without: [&HashSet<usize>; 2]| {
+            let fits = |flag: &&usize| **flag < limit && without.iter().all(|w| !w.contains(flag));
+            let mut places: Vec<usize> = wanted.iter().filter(fits).copied().collect();
+            places.sort_unstable();
+            let every = places.len() / 60 + 1;
+            let mut flags = silent(mode, rate);
+            for &place in places.iter().step_by(every) {
+                flags[place] = true;
+            }
+            (!places.is_empty()).then(|| driver.put(&flags, rate, mode))
+        };
+        let none = HashSet::new();
+        let found = [
+            put(&drawn, [&not_drawn, &none]),
+            put(&not_drawn, [&drawn, &none]),
+            put(&folded, [&not_folded, &drawn]),
+            put(&not_folded, [&folded, &drawn]),
+        ];
+        let is = |place: usize, test: fn(Found) -> bool| found[place].is_some_and(test);
+        let tally = &mut driver.tally;
+        tally.note(
+            "drawn by (y + x / W) x L alone",
+            is(0, |f| f.slant.is_some()),
+        );
+        let name = "drawn by y x L + x / W x L alone: not at all";
+        tally.note(name, is(1, |f| f.slant.is_none()));
+        let name = "folded by y x L + x / 700 x L alone";
+        tally.note(name, is(2, |f| f.slant.is_none() && f.quality > 0.0));
+        let name = "folded by (y + x / 700) x L alone: not at all";
+        tally.note(name, is(3, |f| f.slant.is_none() && f.quality == 0.0));
+    }
+}
+
+/// Whether rate + (tangent / W) x rate differs from the same number computed
+/// in other orders.
+fn order_tells(rate: f64, angle: f64, width: f64) -> bool {
+    let tangent = sync::tangent(((angle - 30.0) * 2.0) as usize);
+    let others = [
+        rate + tangent * rate / width,
+        rate + rate / width * tangent,
+        rate * (1.0 + tangent / width),
+    ];
+    !others.contains(&(rate + (tangent / width) * rate))
+}
+
+/// Few flags, and a rate for which the order of steps tells in the new one.
+fn orders(driver: &mut Driver, rng: &mut Rng, mode: usize) {
+    let row = spec(mode);
+    let width = sync::line_width(row) as f64;
+    let mut kept = 0;
+    while kept < 3 {
+        let start = 8_000.0 + rng.unit() * 4_000.0;
+        let mut flags = silent(mode, start);
+        for _ in 0..4 {
+            let from = rng.index(flags.len());
+            set(&mut flags, from, from + 40);
+        }
+        let mut angle = |rate: f64| {
+            let slant = sync::pass(&flags, rate, row, &mut driver.scratch);
+            slant
+                .map(|(angle, _)| angle)
+                .filter(|a| (a - 90.0).abs() > 0.5)
+        };
+        let Some(first) = angle(start) else {
+            continue;
+        };
+        let near = (0..100_000).map(|i| start + f64::from(i) / 16_384.0);
+        let mut telling = near.filter(|&rate| order_tells(rate, first, width));
+        let Some(rate) = telling.next() else {
+            continue;
+        };
+        if angle(rate) == Some(first) {
+            driver.put(&flags, rate, mode);
+            let name = "new rate whose last bit hangs on the order of steps";
+            driver.tally.note(name, true);
+            kept += 1;
+        }
     }
 }

@@ -130,4 +130,37 @@ pub mod access {
             self.detector.first_line_is_odd(line_start)
         }
     }
+
+    /// Every evaluation of a search without a start, and nothing of the
+    /// probing between them: for timing.
+    pub struct EvaluateAll {
+        detector: SyncStartDetector,
+        evaluations: usize,
+    }
+
+    impl EvaluateAll {
+        pub fn new(spec: ModeSpec, flags: &[bool]) -> Self {
+            let mut detector = SyncStartDetector::new(spec);
+            detector.probes = flags.to_vec();
+            let evaluations = (flags.len() - detector.window_probes()) / 64 + 1;
+            Self {
+                detector,
+                evaluations,
+            }
+        }
+
+        /// The sum of the qualities.
+        pub fn run(&mut self) -> f32 {
+            let mut sum = 0.0;
+            for j in 0..self.evaluations {
+                assert!(self.detector.evaluate(64 * j).is_none());
+                sum += self.detector.last_quality;
+            }
+            sum
+        }
+
+        pub fn evaluations(&self) -> usize {
+            self.evaluations
+        }
+    }
 }

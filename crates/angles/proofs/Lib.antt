@@ -1,0 +1,2 @@
+-- Laws of the angle tables.
+pub mod Rules

@@ -1,0 +1,3 @@
+-- The angle tables. Definitions only.
+pub mod Angle
+pub mod Rules

@@ -1,0 +1,6 @@
+-- The plain session of demand 3. Definitions only.
+pub mod Refusals
+pub mod Plain
+pub mod Point
+pub mod Calls
+pub mod Lists

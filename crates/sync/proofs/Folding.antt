@@ -1,0 +1,93 @@
+-- Laws of the final fold: a line is added to the counts, and after n lines each count is its column's sum. Assumes nothing.
+use mathlib.Core.Path.{_≡_, refl, ap, sym, _∙_}
+use mathlib.Core.List.{List, [], _∷_, _++_}
+use Prim.Native.Nat.{ℕ, zero, suc, _+_, _*_, _^_, _≤_, _<_}
+use native.Mathlib.Nat.{zero-add}
+use native.Mathlib.Numerals.{add-one}
+use native.Mathlib.Omega.{arith}
+use borrow.Author.Count.{below-more}
+use lib.ListN.{length, getD, set, length-set, length-append, List·getD-append}
+use lib.Seq.{getD-set-same, getD-set-other, getD-at, ext-getD}
+use lib.Ieee.{Float, nan, binary64, add}
+use Rattle.hough.specs.Pass.{probeOf}
+use Rattle.pulse.specs.Sums.{sumFrom}
+use Rattle.pulse.proofs.Sums.{sum-none, sum-more, sum-below}
+use Rattle.sync.specs.Fold.{lineSeconds, columnSeconds, flagAt, foldFlag, columnCount, listed, foldOf, ColumnTable, Added}
+
+differs : {k n : ℕ} → k < n → k ≡ n → ⊥
+differs l e = omega arith
+
+-- ---- a line
+
+pub added-none : (f : ℕ → ℕ) (m : List ℕ) → Added f 0 m m
+added-none f m = record { size = refl; sum = λ x l. absurd (omega arith); rest = λ x l. refl }
+
+pub added-more : (f : ℕ → ℕ) (n : ℕ) (old new : List ℕ) (v : ℕ) → n < length new → Added f n old new → v ≡ getD new n 0 + f n → Added f (n + 1) old (set new n v)
+added-more f n old new v l a e =
+    record {
+      size = simp length-set (a .size);
+      sum =
+          below-more (λ (x : ℕ). getD (set new n v) x 0 ≡ getD old x 0 + f x) n (λ x b. getD-set-other new n x v 0 (differs b) ∙ a .sum x b)
+          (getD-set-same new n v 0 l ∙ e ∙ ap (λ (z : ℕ). z + f n) (a .rest n (λ b. omega arith)));
+      rest = λ x b. getD-set-other new n x v 0 (λ q. b (omega arith)) ∙ a .rest x (λ d. b (omega arith));
+    }
+
+-- ---- the columns' times
+
+pub table-more : (g : ℕ → Float) (n : ℕ) (t : List Float) → n < length t → ((k : ℕ) → k < n → getD t k nan ≡ g k) → (k : ℕ) → k < n + 1 → getD (set t n (g n)) k nan ≡ g k
+table-more g n t l h =
+    below-more (λ (k : ℕ). getD (set t n (g n)) k nan ≡ g k) n (λ k b. getD-set-other t n k (g n) nan (differs b) ∙ h k b) (getD-set-same t n (g n) nan l)
+
+-- ---- the lines
+
+module _ (flags : List ℕ) (rate line : Float) where
+  -- a line more: the flags at y * L and the columns' times
+  pub lines-more : (old new : List ℕ) (times : List Float) (start : Float) (y : ℕ) → ColumnTable line times → start ≡ lineSeconds line y
+      → ((x : ℕ) → x < 700 → getD old x 0 ≡ columnCount flags rate line y x) → Added (λ x. flagAt flags rate start (getD times x nan)) 700 old new
+      → (x : ℕ) → x < 700 → getD new x 0 ≡ columnCount flags rate line (y + 1) x
+  unfolding foldFlag
+  lines-more old new times start y t e h a x l =
+      a .sum x l
+      ∙ ap (λ (z : ℕ). z + flagAt flags rate start (getD times x nan)) (h x l)
+      ∙ ap (λ (z : ℕ). columnCount flags rate line y x + z) (ap (λ (s : Float). flagAt flags rate s (getD times x nan)) e ∙ ap (flagAt flags rate (lineSeconds line y)) (t .column x l))
+      ∙ sym (sum-more (foldFlag flags rate line x) 0 y ∙ ap (λ (z : ℕ). columnCount flags rate line y x + foldFlag flags rate line x z) (zero-add y))
+
+-- ---- a list of n values
+
+pub listed-length : (f : ℕ → ℕ) (n : ℕ) → length (listed f n) ≡ n
+unfolding listed
+listed-length f zero = refl
+listed-length f (suc n) = simp length-append (omega (arith, listed-length f n))
+
+pub listed-at : (f : ℕ → ℕ) (n k : ℕ) → k < n → getD (listed f n) k 0 ≡ f k
+unfolding listed
+listed-at f zero k l = absurd (omega arith)
+listed-at f (suc n) k l = rest (below-more (λ (k : ℕ). getD (listed f n ++ (f n ∷ [])) k 0 ≡ f k) n (λ k b. List·getD-append (listed f n) (f n ∷ []) 0 k (long k b) ∙ listed-at f n k b) (getD-at (listed f n) (f n) [] 0 n (listed-length f n)) k)
+  where
+    long : (k : ℕ) → k < n → k < length (listed f n)
+    long k b = rw (listed-length f n) b
+
+    rest : (k < n + 1 → getD (listed f n ++ (f n ∷ [])) k 0 ≡ f k) → getD (listed f n ++ (f n ∷ [])) k 0 ≡ f k
+    rest g = g (omega arith)
+
+-- ---- the fold
+
+pub fold-is : (flags counts : List ℕ) (rate line : Float) (n : ℕ) → length counts ≡ 700 → ((x : ℕ) → x < 700 → getD counts x 0 ≡ columnCount flags rate line n x) → counts ≡ foldOf flags rate line n
+unfolding foldOf
+fold-is flags counts rate line n s h =
+    ext-getD 0 counts (listed (columnCount flags rate line n) 700) (s ∙ sym (listed-length (columnCount flags rate line n) 700))
+    (λ x l. let b : x < 700 = omega arith in h x b ∙ sym (listed-at (columnCount flags rate line n) 700 x b))
+
+pub fold-length : (flags : List ℕ) (rate line : Float) (n : ℕ) → length (foldOf flags rate line n) ≡ 700
+unfolding foldOf
+fold-length flags rate line n = listed-length (columnCount flags rate line n) 700
+
+-- flags of a byte, at most 65,536 lines
+pub count-below : (flags : List ℕ) (rate line : Float) (n x : ℕ) → ((k : ℕ) → getD flags k 0 < 2 ^ 8) → n ≤ 65536 → columnCount flags rate line n x ≤ 16711680
+unfolding foldFlag flagAt
+count-below flags rate line n x h b =
+    let c : columnCount flags rate line n x ≤ n * 255 = sum-below (foldFlag flags rate line x) 255 0 n (λ y. flag-below y) in
+    omega arith
+  where
+    flag-below : (y : ℕ) → foldFlag flags rate line x y ≤ 255
+    flag-below y = omega (arith, h (probeOf (add binary64 (lineSeconds line y) (columnSeconds line x)) rate))

@@ -1,0 +1,145 @@
+-- Laws of `find_sync`: the parts put together, the rows that it takes, and flags that are all 0. Assumes nothing.
+use mathlib.Core.Path.{_≡_, refl, sym, ap, _∙_}
+use mathlib.Core.Bool.{Bool, true, false, cond, not}
+use mathlib.Core.List.{List, [], _∷_}
+use Prim.Native.Nat.{ℕ, zero, suc, _+_, _-_, _*_, _≤_, _<_, min}
+use native.Mathlib.Omega.{arith}
+use lib.ListN.{length, getD, take, replicate, List·getD-eq-default}
+use lib.Seq.{take-all}
+use lib.Dec.{T, leb, leb→le, nleb→lt, ltb, ltb→lt, nltb→le, eqb}
+use lib.IntN.{ℤ}
+use lib.Ieee.{Float, binary64, add}
+use Rattle.modespec.specs.declared.ModeSpec.{ModeSpec}
+use Rattle.modespec.specs.ModeSpec.{specOf}
+use Rattle.modespec.specs.Sizes.{radioLines, imageProbes, lineWidth}
+use Rattle.modespec.proofs.Rows.{image-lines, radio-lines, line-width}
+use Rattle.hough.specs.declared.Passes.{Passes}
+use Rattle.hough.specs.declared.SlantDeg.the-variants as SlantDeg
+use Rattle.hough.specs.Pass.{passOf, probeOf}
+use Rattle.hough.specs.Passes.{passesFrom, passesOf}
+use Rattle.hough.proofs.Meaning.{zero-flags}
+use Rattle.pulse.specs.Sums.{sumFrom, largest, firstWith, FirstLargest}
+use Rattle.pulse.specs.Edge.{fourFrom, fallAt, slipped, edgeOf}
+use Rattle.pulse.specs.Quality.{qualityOf}
+use Rattle.pulse.proofs.Sums.{sum-below}
+use Rattle.pulse.proofs.Columns.{columns-fit}
+use Rattle.pulse.proofs.Answers.{edge-none}
+use Rattle.sync.specs.Fold.{lineSeconds, columnSeconds, flagAt, foldFlag, columnCount, listed, foldOf}
+use Rattle.sync.specs.declared.SyncResult.{SyncResult}
+use Rattle.sync.specs.FindSync.{skipOf, alignedBy, alignedOf, syncResultOf, SpecFits}
+use Rattle.sync.proofs.Folding.{listed-at, fold-length}
+
+-- every mode's row is one that the inner form takes
+pub mode-fits : (mode : ℕ) → SpecFits (specOf mode)
+mode-fits mode =
+    record {
+      width = omega (arith, line-width mode .high);
+      lines = omega (arith, image-lines mode .high);
+      radio = omega (arith, radio-lines mode .high);
+      pulse = columns-fit mode 700 (omega arith);
+    }
+
+pub zeros-at : (n x : ℕ) → getD (replicate {A = ℕ} n 0) x 0 ≡ 0
+zeros-at zero x = refl
+zeros-at (suc n) zero = refl
+zeros-at (suc n) (suc x) = zeros-at n x
+
+-- ---- the edge is a column
+
+first-below : (f : ℕ → ℕ) (v k n : ℕ) → firstWith f v k n ≤ k + n
+unfolding firstWith
+first-below f v k zero = omega arith
+first-below f v k (suc n) = go (eqb (f k) v) (first-below f v (suc k) n)
+  where
+    go : (t : Bool) → firstWith f v (suc k) n ≤ suc k + n → cond t k (firstWith f v (suc k) n) ≤ k + suc n
+    go true h = omega arith
+    go false h = omega arith
+
+slipped-below : (x : ℕ) → slipped x ≤ x
+slipped-below x = go (ltb 350 x)
+  where
+    go : (t : Bool) → cond t (x - 350) x ≤ x
+    go true = omega arith
+    go false = omega arith
+
+pub edge-below : (counts : List ℕ) → edgeOf counts ≤ 65536
+unfolding edgeOf
+edge-below counts = go (eqb top 0)
+  where
+    top : ℕ
+    top = largest (fallAt counts) 692
+
+    go : (t : Bool) → cond t 0 (slipped (firstWith (fallAt counts) (largest (fallAt counts) 692) 0 692 + 4)) ≤ 65536
+    go true = omega arith
+    go false = omega (arith, slipped-below (firstWith (fallAt counts) (largest (fallAt counts) 692) 0 692 + 4), first-below (fallAt counts) (largest (fallAt counts) 692) 0 692)
+
+-- ---- the parts put together
+
+pub aligned-is : (flags : List ℕ) (spec : ModeSpec) (passes : Passes) (counts : List ℕ) (edge radio : ℕ) (skip : ℤ) (quality : Float)
+    → counts ≡ foldOf flags (passes .rate) (spec .«line_seconds») (spec .«image_lines») → edge ≡ edgeOf counts → skip ≡ skipOf edge spec (passes .rate) → radio ≡ radioLines spec
+    → quality ≡ qualityOf counts spec radio
+    → record { «adjusted_rate_hz» = passes .rate; «skip_samples» = skip; «slant_deg» = passes .«slant_deg»; «sync_quality» = quality } ≡ alignedOf flags spec passes
+unfolding alignedOf alignedBy
+aligned-is flags spec passes counts edge radio skip quality c e s r q =
+    parts (s ∙ ap (λ (x : ℕ). skipOf x spec (passes .rate)) (e ∙ ap edgeOf c)) (q ∙ ap (λ (k : List ℕ). qualityOf k spec radio) c ∙ ap (qualityOf (foldOf flags (passes .rate) (spec .«line_seconds») (spec .«image_lines»)) spec) r)
+  where
+    parts : {k k′ : ℤ} {x x′ : Float} → k ≡ k′ → x ≡ x′
+        → _≡_ {A = SyncResult} (record { «adjusted_rate_hz» = passes .rate; «skip_samples» = k; «slant_deg» = passes .«slant_deg»; «sync_quality» = x })
+        (record { «adjusted_rate_hz» = passes .rate; «skip_samples» = k′; «slant_deg» = passes .«slant_deg»; «sync_quality» = x′ })
+    parts a b = cc
+
+-- the flags that are read
+pub take-least : (p : ℕ) (l : List ℕ) → take (min p (length l)) l ≡ take p l
+take-least p l = go (leb p (length l)) (leb→le p (length l)) (nleb→lt p (length l))
+  where
+    go : (t : Bool) → (T t → p ≤ length l) → (T (not t) → length l < p) → take (min p (length l)) l ≡ take p l
+    go true a b = let e : min p (length l) ≡ p = omega (arith, a tt) in ap (λ (n : ℕ). take n l) e
+    go false a b = let h : length l ≤ min p (length l) = omega (arith, b tt) in let k : length l ≤ p = omega (arith, b tt) in take-all (min p (length l)) l h ∙ sym (take-all p l k)
+
+pub sync-of : (spec : ModeSpec) (rate : Float) (flags read : List ℕ) → read ≡ take (imageProbes spec rate) flags → alignedOf read spec (passesOf spec rate read) ≡ syncResultOf spec rate flags
+unfolding syncResultOf
+sync-of spec rate flags read e = ap (λ (l : List ℕ). alignedOf l spec (passesOf spec rate l)) e
+
+-- ---- flags that are all 0
+
+take-zeros : (n : ℕ) (l : List ℕ) → ((k : ℕ) → getD l k 0 ≡ 0) → (k : ℕ) → getD (take n l) k 0 ≡ 0
+take-zeros zero l h k = refl
+take-zeros (suc n) [] h k = refl
+take-zeros (suc n) (x ∷ l) h zero = h 0
+take-zeros (suc n) (x ∷ l) h (suc k) = take-zeros n l (λ j. h (suc j)) k
+
+-- no slant, and the rate stays
+passes-zeros : (spec : ModeSpec) (rate : Float) (flags : List ℕ) → ((k : ℕ) → getD flags k 0 ≡ 0) → passesOf spec rate flags ≡ record { rate = rate; «slant_deg» = SlantDeg.None }
+unfolding passesOf passesFrom
+passes-zeros spec rate flags h = rw (zero-flags (passOf flags rate spec (lineWidth spec)) h)
+
+fold-zeros : (flags : List ℕ) (rate line : Float) (n : ℕ) → ((k : ℕ) → getD flags k 0 ≡ 0) → (x : ℕ) → x < 700 → getD (foldOf flags rate line n) x 0 ≡ 0
+unfolding foldOf foldFlag flagAt
+fold-zeros flags rate line n h x l =
+    let b : columnCount flags rate line n x ≤ n * 0 = sum-below (foldFlag flags rate line x) 0 0 n (λ y. omega (arith, h (probeOf (add binary64 (lineSeconds line y) (columnSeconds line x)) rate))) in
+    listed-at (columnCount flags rate line n) 700 x l ∙ omega arith
+
+edge-zeros : (flags : List ℕ) (rate line : Float) (n : ℕ) → ((k : ℕ) → getD flags k 0 ≡ 0) → edgeOf (foldOf flags rate line n) ≡ 0
+edge-zeros flags rate line n h =
+    let m = foldOf flags rate line n in
+    let z : (x : ℕ) → getD m x 0 ≤ 0 = λ x. any (ltb x 700) (ltb→lt x 700) (nltb→le x 700) in
+    let f : (x : ℕ) → fallAt m x ≤ 0 = λ x. omega (arith, sum-below (λ k. getD m k 0) 0 x 4 z) in
+    sym (edge-none m 0 0 (record { within = omega arith; reached = omega (arith, f 0); highest = λ k l. f k; first = λ k l. absurd (omega arith) }) refl)
+  where
+    any : {x : ℕ} (t : Bool) → (T t → x < 700) → (T (not t) → 700 ≤ x) → getD (foldOf flags rate line n) x 0 ≤ 0
+    any {x} true a b = omega (arith, fold-zeros flags rate line n h x (a tt))
+    any {x} false a b = let l : length (foldOf flags rate line n) ≤ x = omega (arith, fold-length flags rate line n, b tt) in omega (arith, List·getD-eq-default (foldOf flags rate line n) 0 l)
+
+-- what `find_sync` answers then: the starting rate, no slant, and the skip of an edge at column 0
+pub silent : (spec : ModeSpec) (rate : Float) (flags : List ℕ) → ((k : ℕ) → getD flags k 0 ≡ 0)
+    → (syncResultOf spec rate flags .«adjusted_rate_hz» ≡ rate) × (syncResultOf spec rate flags .«skip_samples» ≡ skipOf 0 spec rate) × (syncResultOf spec rate flags .«slant_deg» ≡ SlantDeg.None)
+unfolding syncResultOf alignedOf alignedBy
+silent spec rate flags h =
+    let read = take (imageProbes spec rate) flags in
+    let z : (k : ℕ) → getD read k 0 ≡ 0 = take-zeros (imageProbes spec rate) flags h in
+    let p = passes-zeros spec rate read z in (
+      ap (λ (t : Passes). t .rate) p,
+      ap (λ (t : Passes). skipOf (edgeOf (foldOf read (t .rate) (spec .«line_seconds») (spec .«image_lines»))) spec (t .rate)) p
+          ∙ ap (λ (e : ℕ). skipOf e spec rate) (edge-zeros read rate (spec .«line_seconds») (spec .«image_lines») z),
+      ap (λ (t : Passes). t .«slant_deg») p,
+    )

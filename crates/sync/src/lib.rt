@@ -1,0 +1,190 @@
+// `find_sync`: the slant of a picture corrects the rate, and a fold at that rate gives the skip and the quality.
+// From slowrx.rs's sync.rs.
+ghost use mathlib.Core.Path.{_≡_};
+ghost use Prim.Native.Nat.{ℕ, _≤_, _<_, min};
+ghost use lib.ListN.{length, getD};
+ghost use lib.Ieee.{nan};
+ghost use Rattle.modespec.specs.Sizes.{radioLines};
+ghost use Rattle.pulse.specs.Limits.{allAtMost};
+ghost use Rattle.sync.specs.Fold.{flagAt, foldOf, ColumnTable, Added};
+ghost use Rattle.sync.specs.FindSync.{skipSeconds, skipOf, alignedOf, syncResultOf, SpecFits, SyncDone, rateAllowed, syncRefusal, SyncCall};
+use hough::Passes;
+use hough::SlantDeg;
+use modespec::ModeSpec;
+
+// The rate that cancels the slant, and where line 0 begins, in samples from the first flag on.
+pub struct SyncResult {
+    pub adjusted_rate_hz: f64,
+    pub skip_samples: i64,
+    pub slant_deg: SlantDeg,
+    pub sync_quality: f32,
+}
+
+// The answer of `find_sync`.
+pub enum SyncAnswer {
+    Found(SyncResult),
+    Refused(u8),
+}
+
+// ---- the final fold
+
+// The flag that covers the time start + column: 0 beyond the last.
+fn flag_at(flags: &[u8], rate: f64, start: f64, column: f64) -> u8
+    ensures { λ r. ⌜ r ≡ flagAt (now (flags .entry)) rate start column ⌝ }
+{
+    let i: usize = ieee::to_u64((start + column) * rate / 4.0) as usize;
+    if i < flags.len() { flags[i] } else { 0 }
+}
+
+// The times of the 700 columns of a line, worked out once and not in each line.
+fn column_seconds(line: f64) -> [f64; 700]
+    ensures { λ r. ⌜ ColumnTable line r ⌝ }
+{
+    let mut columns = [0.0; 700];
+    let mut x: usize = 0;
+    while x < 700 {
+        columns[x] = ((x as f64) / 700.0) * line;
+        x += 1;
+    }
+    columns
+}
+
+// Adds the flags of the line that begins at `start`.
+fn fold_line(counts: &mut [u32], flags: &[u8], columns: &[f64], start: f64, rate: f64)
+    requires { ⌜ (length (now counts) ≡ 700) × (length (now columns) ≡ 700) × ((x : ℕ) → x < 700 → getD (now counts) x 0 ≤ 16711680) ⌝ }
+    ensures { λ r. ⌜ Added (λ x. flagAt (now (flags .entry)) rate start (getD (now (columns .entry)) x nan)) 700 (now (counts .entry)) (now (counts .exit)) ⌝ }
+{
+    let mut x: usize = 0;
+    while x < 700 {
+        counts[x] = counts[x] + flag_at(flags, rate, start, columns[x]) as u32;
+        x += 1;
+    }
+}
+
+// The counts of n lines of 700 columns.
+fn fold(counts: &mut [u32], flags: &[u8], rate: f64, line: f64, n: usize)
+    requires { ⌜ (length (now counts) ≡ 700) × ((x : ℕ) → getD (now counts) x 0 ≡ 0) × (n ≤ 65536) ⌝ }
+    ensures { λ r. ⌜ now (counts .exit) ≡ foldOf (now (flags .entry)) rate line n ⌝ }
+{
+    let columns = column_seconds(line);
+    let mut y: usize = 0;
+    while y < n {
+        fold_line(counts, flags, &columns, (y as f64) * line, rate);
+        y += 1;
+    }
+}
+
+// ---- the skip
+
+// The seconds from the first flag to line 0, for the falling edge at a column.
+fn skip_seconds_for(edge: usize, spec: ModeSpec) -> f64
+    requires { ⌜ edge ≤ 65536 ⌝ }
+    ensures { λ r. ⌜ r ≡ skipSeconds edge spec ⌝ }
+{
+    let raw = ((edge as f64) / 700.0) * spec.line_seconds - spec.sync_seconds;
+    raw + spec.skip_correction_seconds()
+}
+
+fn skip_samples_for(edge: usize, spec: ModeSpec, rate: f64) -> i64
+    requires { ⌜ edge ≤ 65536 ⌝ }
+    ensures { λ r. ⌜ r ≡ skipOf edge spec rate ⌝ }
+{
+    ieee::round_to_i64(skip_seconds_for(edge, spec) * rate)
+}
+
+// The fold after the passes, and what it gives: `image_lines` lines are folded, and only `radio_lines` of them can have
+// a pulse each.
+fn aligned(flags: &[u8], spec: ModeSpec, passes: Passes) -> SyncResult
+    requires { ⌜ SpecFits spec ⌝ }
+    ensures { λ r. ⌜ r ≡ alignedOf (now (flags .entry)) spec passes ⌝ }
+{
+    let rate = passes.rate;
+    let slant_deg = passes.slant_deg;
+    let image_lines = spec.image_lines as usize;
+    let radio_lines = spec.radio_lines() as usize;
+    let mut counts = [0u32; 700];
+    fold(&mut counts, flags, rate, spec.line_seconds, image_lines);
+    SyncResult {
+        adjusted_rate_hz: rate,
+        skip_samples: skip_samples_for(pulse::falling_edge(&counts), spec, rate),
+        slant_deg,
+        sync_quality: pulse::quality(&counts, spec, radio_lines),
+    }
+}
+
+// ---- the whole
+
+fn least(a: usize, b: usize) -> usize
+    ensures { λ r. ⌜ r ≡ min a b ⌝ }
+{
+    if a < b { a } else { b }
+}
+
+// `find_sync` of a row. Of img the first 441,000 places and of votes the first 144,000 may hold anything, and come
+// back as 0.
+pub fn find_sync_in(
+    flags: &[u8],
+    rate: f64,
+    spec: ModeSpec,
+    img: &mut [u8],
+    votes: &mut [u16],
+) -> SyncResult
+    requires { ⌜ SpecFits spec × ((441000 ≤ length (now img)) × (144000 ≤ length (now votes))) ⌝ }
+    ensures { λ r. ⌜ SyncDone (syncResultOf spec rate (now (flags .entry))) r (now (img .entry)) (now (img .exit)) (now (votes .entry)) (now (votes .exit)) ⌝ }
+{
+    let n = least(modespec::image_probes(spec, rate), flags.len());
+    let read = &flags[..n];
+    let passes = hough::slant_passes(read, rate, spec, img, votes);
+    aligned(read, spec, passes)
+}
+
+// ---- the call
+
+// Whether no flag is above 1.
+fn flags_allowed(flags: &[u8]) -> bool
+    ensures { λ r. ⌜ r ≡ allAtMost 1 (now (flags .entry)) ⌝ }
+{
+    let mut i: usize = 0;
+    while i < flags.len() {
+        if flags[i] > 1 {
+            return false;
+        }
+        i += 1;
+    }
+    true
+}
+
+fn rate_allowed(rate: f64) -> bool
+    ensures { λ r. ⌜ r ≡ rateAllowed rate ⌝ }
+{
+    rate >= 8000.0 && rate <= 48000.0
+}
+
+// The lowest number for which the call is refused, or 0.
+fn refusal(flags: &[u8], rate: f64, mode: u8, img_places: usize, votes_places: usize) -> u8
+    ensures { λ r. ⌜ r ≡ syncRefusal (now (flags .entry)) rate mode «img_places» «votes_places» ⌝ }
+{
+    if mode > 15 {
+        return 1;
+    }
+    if !rate_allowed(rate) {
+        return 2;
+    }
+    if img_places < 441_000 || votes_places < 144_000 {
+        return 5;
+    }
+    if flags.len() > 16_777_216 {
+        return 6;
+    }
+    if flags_allowed(flags) { 0 } else { 7 }
+}
+
+pub fn find_sync(flags: &[u8], rate: f64, mode: u8, img: &mut [u8], votes: &mut [u16]) -> SyncAnswer
+    ensures { λ r. ⌜ SyncCall (now (flags .entry)) rate mode r (now (img .entry)) (now (img .exit)) (now (votes .entry)) (now (votes .exit)) ⌝ }
+{
+    let number = refusal(flags, rate, mode, img.len(), votes.len());
+    if number != 0 {
+        return SyncAnswer::Refused(number);
+    }
+    SyncAnswer::Found(find_sync_in(flags, rate, modespec::for_mode(mode), img, votes))
+}

@@ -1,0 +1,137 @@
+-- Laws of an evaluation for the session: the streak, the samples that are read, the bound on a start. Assumes nothing.
+use mathlib.Core.Path.{_≡_, refl, _∙_}
+use mathlib.Core.Bool.{Bool, true, false, cond}
+use mathlib.Core.List.{List, [], List·Memᴰ, List·Memᴰ·not-nil}
+use Prim.Native.Nat.{ℕ, _+_, _*_, _^_, _≤_, _<_}
+use native.Mathlib.Omega.{arith}
+use native.Mathlib.Nat.{le-trans, le-of-lt}
+use lib.Dec.{ltb, lit<, lit≤}
+use lib.IntN.{pos}
+use lib.Ieee.{Float, fin, lt}
+use lib.ListN.{length, getD, drop}
+use Rattle.modespec.specs.ModeSpec.{specOf}
+use Rattle.modespec.specs.Sizes.{lineSamples, windowLines, pulseColumns}
+use Rattle.sync_start.specs.declared.pulsed.FirstLine.{FirstLine}
+use Rattle.sync_start.specs.declared.pulsed.FirstLine.the-variants.{Missing, Line}
+use Rattle.sync_start.specs.declared.Evaluation.{Evaluation}
+use Rattle.sync_start.specs.declared.Located.{Located}
+use Rattle.sync_start.specs.declared.Located.the-variants.{Nowhere, At}
+use Rattle.sync_start.specs.Evaluate.{robot, countsOf, lineIn, columnOf, lineStart, evenStart, positionOf, locatedBy, windowQuality, streakAfter, startQuality, locateIn, locateOf, readsBy, readsIn, evaluationOf, parityReads}
+use Rattle.sync_start.specs.Fold.{foldOf}
+use Rattle.sync_start.specs.Parity.{oddLine}
+use Rattle.sync_start.proofs.Folding.{fold-length}
+use Rattle.sync_start.proofs.Column.{column-within, sized}
+use Rattle.sync_start.proofs.Positions.{line-within, timed, position-most}
+use Rattle.sync_start.proofs.Samples.{sampleOf, start-others, start-same, reads-below}
+
+-- ---- the streak
+
+pub streak-step : (mode j : ℕ) (flags : List ℕ) (samples : List Float) (streak : ℕ) → evaluationOf mode j flags samples streak .streak ≤ streak + 1
+unfolding evaluationOf streakAfter
+streak-step mode j flags samples streak = at (lt (windowQuality mode j flags) startQuality)
+  where
+    at : (b : Bool) → cond b 0 (streak + 1) ≤ streak + 1
+    at true = omega arith
+    at false = omega arith
+
+-- ---- the samples
+
+-- the quality and the streak hang on the flags alone
+pub flags-only : (mode j : ℕ) (flags : List ℕ) (s t : List Float) (streak : ℕ)
+    → (evaluationOf mode j flags s streak .quality ≡ evaluationOf mode j flags t streak .quality)
+    × (evaluationOf mode j flags s streak .streak ≡ evaluationOf mode j flags t streak .streak)
+unfolding evaluationOf
+flags-only mode j flags s t streak = (refl, refl)
+
+same-start : (mode j : ℕ) (flags : List ℕ) (s t : List Float) (streak : ℕ)
+    → (ltb (streakAfter (windowQuality mode j flags) streak) 3 ≡ false → locateOf mode j flags s ≡ locateOf mode j flags t)
+    → evaluationOf mode j flags s streak ≡ evaluationOf mode j flags t streak
+unfolding evaluationOf
+same-start mode j flags s t streak h = at (ltb (streakAfter (windowQuality mode j flags) streak) 3) refl
+  where
+    at : (b : Bool) → ltb (streakAfter (windowQuality mode j flags) streak) 3 ≡ b
+        → _≡_ {A = Evaluation}
+        (record { quality = windowQuality mode j flags; streak = streakAfter (windowQuality mode j flags) streak; start = cond (ltb (streakAfter (windowQuality mode j flags) streak) 3) Nowhere (locateOf mode j flags s) })
+        (record { quality = windowQuality mode j flags; streak = streakAfter (windowQuality mode j flags) streak; start = cond (ltb (streakAfter (windowQuality mode j flags) streak) 3) Nowhere (locateOf mode j flags t) })
+    at true e = rw e
+    at false e = rw (e, h e)
+
+-- other modes than Robot 24 and 36 never look at samples
+pub other-modes : (mode j : ℕ) (flags : List ℕ) (s t : List Float) (streak : ℕ) → robot mode ≡ false → evaluationOf mode j flags s streak ≡ evaluationOf mode j flags t streak
+unfolding locateOf locateIn
+other-modes mode j flags s t streak e =
+    same-start mode j flags s t streak
+    (λ h. start-others mode (specOf mode) (64 * j) (columnOf (specOf mode) (countsOf mode j flags)) (lineIn (specOf mode) (64 * j) (countsOf mode j flags) flags) s t e)
+
+known-is : (flags : List ℕ) → 4 * length flags + 4 ≡ 4 * (length flags + 1)
+known-is flags = omega arith
+
+-- where two lists agree on the samples that are read, so do the evaluations
+pub parity-only : (mode j : ℕ) (flags : List ℕ) (s t : List Float) (streak : ℕ)
+    → length s ≡ 4 * length flags + 4 → length t ≡ 4 * length flags + 4
+    → ((n : ℕ) → List·Memᴰ n (parityReads mode j flags streak) → getD s n (fin false 0 (pos 0)) ≡ getD t n (fin false 0 (pos 0)))
+    → evaluationOf mode j flags s streak ≡ evaluationOf mode j flags t streak
+unfolding parityReads readsIn locateOf locateIn
+parity-only mode j flags s t streak a b h = by (robot mode) refl
+  where
+    located : ((n : ℕ) → List·Memᴰ n (readsIn (specOf mode) (64 * j) (countsOf mode j flags) flags) → sampleOf s n ≡ sampleOf t n) → locateOf mode j flags s ≡ locateOf mode j flags t
+    located k =
+        start-same mode (specOf mode) (64 * j) (columnOf (specOf mode) (countsOf mode j flags)) (lineIn (specOf mode) (64 * j) (countsOf mode j flags) flags) flags s t
+        (a ∙ known-is flags) (b ∙ known-is flags) k
+
+    by : (r : Bool) → robot mode ≡ r → evaluationOf mode j flags s streak ≡ evaluationOf mode j flags t streak
+    by true e =
+        same-start mode j flags s t streak
+        (λ q. located (λ n m. h n (rw (e, q) m)))
+    by false e = other-modes mode j flags s t streak e
+
+-- every sample that is read is known
+pub reads-known : (mode j : ℕ) (flags : List ℕ) (streak n : ℕ) → List·Memᴰ n (parityReads mode j flags streak) → n < 4 * length flags + 4
+unfolding parityReads readsIn
+reads-known mode j flags streak n m = by (robot mode) (ltb (streakAfter (windowQuality mode j flags) streak) 3) (lineIn (specOf mode) (64 * j) (countsOf mode j flags) flags) m
+  where
+    by : (r q : Bool) (l : FirstLine)
+        → List·Memᴰ n (cond r (cond q [] (readsBy l (specOf mode) (64 * j) flags (columnOf (specOf mode) (countsOf mode j flags)))) []) → n < 4 * length flags + 4
+    by true false (Line y) k =
+        let l : n < 4 * (length flags + 1) = reads-below (specOf mode) (4 * (length flags + 1)) (lineStart (specOf mode) (64 * j) (columnOf (specOf mode) (countsOf mode j flags)) y) (windowLines (specOf mode)) n k in
+        omega arith
+    by true false Missing k = absurd (List·Memᴰ·not-nil k)
+    by true true l k = absurd (List·Memᴰ·not-nil k)
+    by false q l k = absurd (List·Memᴰ·not-nil k)
+
+-- ---- the position
+
+fold-long : (mode j : ℕ) (flags : List ℕ) → length (countsOf mode j flags) ≡ 700
+unfolding foldOf
+fold-long mode j flags = fold-length (lineSamples (specOf mode)) (drop (64 * j) flags) (windowLines (specOf mode))
+
+column-few : (mode j : ℕ) (flags : List ℕ) → columnOf (specOf mode) (countsOf mode j flags) ≤ 700
+column-few mode j flags =
+    let n = fold-long mode j flags in
+    let some : 0 < length (countsOf mode j flags) = rw n (lit< tt) in
+    le-of-lt (rw n at (column-within (countsOf mode j flags) (pulseColumns (specOf mode) 700) some))
+
+-- a start lies below 2 ^ 31, and so it fits with every anchor and every size
+pub position-below : (mode j : ℕ) (flags : List ℕ) (samples : List Float) (streak x : ℕ) → 64 * j ≤ 16777216
+    → evaluationOf mode j flags samples streak .start ≡ At x → x ≤ 2 ^ 31
+unfolding evaluationOf locateOf locateIn
+position-below mode j flags samples streak x h e =
+    by (ltb (streakAfter (windowQuality mode j flags) streak) 3) (lineIn (specOf mode) (64 * j) (countsOf mode j flags) flags) refl e
+  where
+    never : {l : Located} → l ≡ Nowhere → l ≡ At x → x ≤ 2 ^ 31
+    never p q = let z : _≡_ {A = ℕ} 0 1 = cc in omega arith
+
+    by : (q : Bool) (l : FirstLine) → lineIn (specOf mode) (64 * j) (countsOf mode j flags) flags ≡ l
+        → cond q Nowhere (locatedBy l mode (specOf mode) (64 * j) (columnOf (specOf mode) (countsOf mode j flags)) samples) ≡ At x → x ≤ 2 ^ 31
+    by true l d p = never refl p
+    by false Missing d p = never refl p
+    by false (Line y) d p =
+        let s = specOf mode in
+        let c = columnOf s (countsOf mode j flags) in
+        let few : y ≤ 64 = le-trans (line-within s (64 * j) flags c (pulseColumns s 700) y d) (sized mode .lines) in
+        let v : x ≡ positionOf s (evenStart (oddLine mode s samples (lineStart s (64 * j) c y)) s (lineStart s (64 * j) c y)) = cc in
+        rw v (position-most s (timed mode) (oddLine mode s samples (lineStart s (64 * j) c y)) (64 * j) c y h (column-few mode j flags) few)
+
+pub position-small : (mode j : ℕ) (flags : List ℕ) (samples : List Float) (streak x : ℕ) → mode ≤ 15 → 64 * j ≤ 16777216
+    → evaluationOf mode j flags samples streak .start ≡ At x → x ≤ 2 ^ 62
+position-small mode j flags samples streak x m h e = le-trans (position-below mode j flags samples streak x h e) (lit≤ tt)

@@ -1,0 +1,43 @@
+-- `sync_start::pulsed::span_at` meets its contract. Assumes nothing.
+use borrow.Author.Needs.{needs}
+use native.Mathlib.Omega.{arith}
+use lib.Ieee.{ofBits}
+use Rattle.sync_start.specs.Fold.{linesAt, columnPart}
+use Rattle.sync_start.specs.Pulsed.{spanOf, pulseAt}
+use Rattle.sync_start.proofs.Lists.{in-float}
+use Rattle.sync_start.proofs.pulsed.span_at.Statement.{statement}
+use Rattle.sync_start.proofs.pulsed.span_at.Tie as tie
+
+int-to-float-start : tie.Need-int-to-float-start
+int-to-float-start c = in-float _ (omega arith)
+
+int-to-float-start-2 : tie.Need-int-to-float-start-2
+int-to-float-start-2 c = in-float _ (omega arith)
+
+int-to-float-start-3 : tie.Need-int-to-float-start-3
+int-to-float-start-3 c = in-float _ (omega arith)
+
+max-requires : tie.Need-max-requires
+max-requires c κs = search needs
+
+to-u64-requires : tie.Need-to-u64-requires
+to-u64-requires c κs = search needs
+
+to-u64-requires-2 : tie.Need-to-u64-requires-2
+to-u64-requires-2 c κs = search needs
+
+returns : tie.Need-returns
+unfolding spanOf pulseAt linesAt columnPart ofBits
+returns c = rw (c .to-u642 .ensures, c .before .to-u64 .ensures, c .before .before .max .ensures)
+
+pub span-at-spec : {M : Type 1} → statement M
+span-at-spec =
+    tie.close
+    (tie.spec
+    int-to-float-start
+    int-to-float-start-2
+    int-to-float-start-3
+    max-requires
+    to-u64-requires
+    to-u64-requires-2
+    returns)

@@ -1,0 +1,50 @@
+-- The fold of a window of flags (01-scope.md, "Start search"): how many lines have a flag set, for each of 700 columns.
+-- The float steps are those of `probe_at` and `evaluate` of sync_start.rs, in their order. Definitions only.
+use Prim.Native.Nat.{ℕ, zero, suc, _+_}
+use mathlib.Core.Bool.{cond, false}
+use mathlib.Core.List.{List, [], _∷_, _++_}
+use lib.ListN.{getD}
+use lib.Dec.{eqb}
+use lib.IntN.{pos}
+use lib.Ieee.{Float, fin, binary64, add, mul, div, toUnsigned}
+use Rattle.ieee.specs.Numbers.{whole}
+use Rattle.modespec.specs.declared.ModeSpec.{ModeSpec}
+use Rattle.modespec.specs.Sizes.{lineSamples, windowLines}
+
+-- x / 700, a column's part of a line
+unfoldable pub columnPart : ℕ → Float
+columnPart x = div binary64 (whole x) (fin false 175 (pos 2))
+
+-- y + x / 700: where column x of line y lies, in lines
+unfoldable pub linesAt : ℕ → ℕ → Float
+linesAt y x = add binary64 (whole y) (columnPart x)
+
+-- `probe_at`: cut(lines × line samples / 4), the number of the flag that lies so many lines into the window
+unfoldable pub probeOf : Float → Float → ℕ
+probeOf samples lines = toUnsigned 64 (div binary64 (mul binary64 lines samples) (fin false 1 (pos 2)))
+
+-- 1 where the flag so many lines into the window is set. A window is the flags from its first to the last one taken; beyond it a flag reads 0.
+unfoldable pub hitBy : Float → List ℕ → Float → ℕ
+hitBy samples window lines = cond (eqb (getD window (probeOf samples lines) 0) 0) 0 1
+
+-- the same, for column x of line y
+unfoldable pub hitAt : Float → List ℕ → ℕ → ℕ → ℕ
+hitAt samples window y x = hitBy samples window (linesAt y x)
+
+-- how many of the first n lines have the flag at column x set
+unfoldable pub hitsTo : Float → List ℕ → ℕ → ℕ → ℕ
+hitsTo samples window x zero = 0
+hitsTo samples window x (suc n) = hitsTo samples window x n + hitAt samples window n x
+
+-- f 0, f 1, .. f (n - 1)
+unfoldable pub listTo : {A : Type 0} → (ℕ → A) → ℕ → List A
+listTo f zero = []
+listTo f (suc n) = listTo f n ++ (f n ∷ [])
+
+-- the counts of the 700 columns over n lines
+unfoldable pub foldTo : Float → List ℕ → ℕ → List ℕ
+foldTo samples window n = listTo (λ x. hitsTo samples window x n) 700
+
+-- the counts over all the window's lines
+unfoldable pub foldOf : ModeSpec → List ℕ → List ℕ
+foldOf spec window = foldTo (lineSamples spec) window (windowLines spec)
