@@ -3,19 +3,14 @@
 // Operation 2: the window around centre a of the first y numbers of the payload. The last 16 are the real parts of its first
 // pairs, and every other number is 0.
 // Operation 3: the decision on the payload's 258 numbers at the shift with the pattern a. x is 1 for yes.
-use libc::STDOUT_FILENO;
 use probe::ProbeAnswer;
 use probe::WindowAnswer;
 use replay::Long;
+use replay::tally;
+use replay::tally::Tally;
 ghost use mathlib.Core.Path.{_≡_};
 ghost use Prim.Native.Nat.{_+_, _≤_};
 ghost use lib.ListN.{length};
-
-struct Tally {
-    seen: u64,
-    wrong: u64,
-    more: bool,
-}
 
 // The pattern that number i of a window must have, where the real parts start at place `at`.
 fn wanted(bytes: &[u8], at: usize, i: usize) -> u32
@@ -107,28 +102,11 @@ fn record_right(fd: i32, op: u64, a: u64, x: u64, y: u64, n: u64) -> bool {
     answered(fd, op, a, x, y, &mut bytes[..size])
 }
 
-fn count(counts: &mut [u64; 4], op: u64) {
-    if op < 4 {
-        let i = op as usize;
-        counts[i] = std::num::wrapping_add_u64(counts[i], 1);
-    }
-}
-
-// Takes one record. One that is cut short is wrong.
-fn one(fd: i32, t: Tally, counts: &mut [u64; 4]) -> Tally {
-    let seen = std::num::wrapping_add_u64(t.seen, 1);
-    let wrong = std::num::wrapping_add_u64(t.wrong, 1);
+// Takes one record.
+fn one(fd: i32, t: Tally) -> Tally {
     match replay::next_long(fd) {
-        Long::End => Tally {
-            seen: t.seen,
-            wrong: t.wrong,
-            more: false,
-        },
-        Long::Cut => Tally {
-            seen: seen,
-            wrong: wrong,
-            more: false,
-        },
+        Long::End => tally::ended(t),
+        Long::Cut => tally::cut(t),
         Long::Case {
             op,
             a,
@@ -138,45 +116,18 @@ fn one(fd: i32, t: Tally, counts: &mut [u64; 4]) -> Tally {
             y,
             z: _,
             n,
-        } => {
-            count(counts, op);
-            if record_right(fd, op, a, x, y, n) {
-                Tally {
-                    seen: seen,
-                    wrong: t.wrong,
-                    more: true,
-                }
-            } else {
-                Tally {
-                    seen: seen,
-                    wrong: wrong,
-                    more: true,
-                }
-            }
-        }
+        } => tally::counted(t, op, record_right(fd, op, a, x, y, n)),
     }
 }
 
-fn all(fd: i32, counts: &mut [u64; 4]) -> Tally {
-    let mut t = Tally {
-        seen: 0,
-        wrong: 0,
-        more: true,
-    };
+fn all(fd: i32) -> Tally {
+    let mut t = tally::start();
     let mut turns = u64::MAX;
     while turns > 0 && t.more {
-        t = one(fd, t, counts);
+        t = one(fd, t);
         turns -= 1;
     }
     t
-}
-
-// How many of one operation there were, on a line.
-fn line(name: &[u8], n: u64) {
-    io::write_all(STDOUT_FILENO, name);
-    io::write_all(STDOUT_FILENO, b" ");
-    io::print_decimal(STDOUT_FILENO, n);
-    io::write_all(STDOUT_FILENO, b"\n");
 }
 
 fn main() {
@@ -186,15 +137,12 @@ fn main() {
         os::fail(path);
         return;
     }
-    let mut counts = [0u64; 4];
-    let t = all(fd, &mut counts);
+    let t = all(fd);
     libc::close(fd);
-    line(b"goertzel_1500", counts[0]);
-    line(b"goertzel_2300", counts[1]);
-    line(b"sync_window", counts[2]);
-    line(b"has_sync_at", counts[3]);
-    io::print_decimal(STDOUT_FILENO, t.seen);
-    io::write_all(STDOUT_FILENO, b" vectors, ");
-    io::print_decimal(STDOUT_FILENO, t.wrong);
-    io::write_all(STDOUT_FILENO, b" wrong\n");
+    let ops = t.ops;
+    tally::line(b"goertzel_1500", ops[0]);
+    tally::line(b"goertzel_2300", ops[1]);
+    tally::line(b"sync_window", ops[2]);
+    tally::line(b"has_sync_at", ops[3]);
+    tally::last_line(t);
 }

@@ -1,13 +1,8 @@
 // Replays the Rust's answers to the float operations. The file `vectors` has short records: the operation,
 // its operands and the answer. Floats are bit patterns, and an `i64` is its bits in two's complement.
-use libc::STDOUT_FILENO;
 use replay::Short;
-
-struct Tally {
-    seen: u64,
-    wrong: u64,
-    more: bool,
-}
+use replay::tally;
+use replay::tally::Tally;
 
 // Whether operation `op` gives the answer expected. An operation that there is not gives none.
 fn right(op: u64, a: u64, b: u64, c: u64, expected: u64) -> bool {
@@ -32,73 +27,29 @@ fn right(op: u64, a: u64, b: u64, c: u64, expected: u64) -> bool {
     }
 }
 
-fn count(counts: &mut [u64; 10], op: u64) {
-    if op < 10 {
-        let i = op as usize;
-        counts[i] = std::num::wrapping_add_u64(counts[i], 1);
-    }
-}
-
-// Takes one record. One that is cut short is wrong.
-fn one(fd: i32, t: Tally, counts: &mut [u64; 10]) -> Tally {
-    let seen = std::num::wrapping_add_u64(t.seen, 1);
-    let wrong = std::num::wrapping_add_u64(t.wrong, 1);
+// Takes one record.
+fn one(fd: i32, t: Tally) -> Tally {
     match replay::next_short(fd) {
-        Short::End => Tally {
-            seen: t.seen,
-            wrong: t.wrong,
-            more: false,
-        },
-        Short::Cut => Tally {
-            seen: seen,
-            wrong: wrong,
-            more: false,
-        },
+        Short::End => tally::ended(t),
+        Short::Cut => tally::cut(t),
         Short::Vector {
             op,
             a,
             b,
             c,
             expected,
-        } => {
-            count(counts, op);
-            if right(op, a, b, c, expected) {
-                Tally {
-                    seen: seen,
-                    wrong: t.wrong,
-                    more: true,
-                }
-            } else {
-                Tally {
-                    seen: seen,
-                    wrong: wrong,
-                    more: true,
-                }
-            }
-        }
+        } => tally::counted(t, op, right(op, a, b, c, expected)),
     }
 }
 
-fn all(fd: i32, counts: &mut [u64; 10]) -> Tally {
-    let mut t = Tally {
-        seen: 0,
-        wrong: 0,
-        more: true,
-    };
+fn all(fd: i32) -> Tally {
+    let mut t = tally::start();
     let mut turns = u64::MAX;
     while turns > 0 && t.more {
-        t = one(fd, t, counts);
+        t = one(fd, t);
         turns -= 1;
     }
     t
-}
-
-// How many of one operation there were, on a line.
-fn line(name: &[u8], n: u64) {
-    io::write_all(STDOUT_FILENO, name);
-    io::write_all(STDOUT_FILENO, b" ");
-    io::print_decimal(STDOUT_FILENO, n);
-    io::write_all(STDOUT_FILENO, b"\n");
 }
 
 fn main() {
@@ -108,21 +59,18 @@ fn main() {
         os::fail(path);
         return;
     }
-    let mut counts = [0u64; 10];
-    let t = all(fd, &mut counts);
+    let t = all(fd);
     libc::close(fd);
-    line(b"to_u64", counts[0]);
-    line(b"to_i64", counts[1]);
-    line(b"round", counts[2]);
-    line(b"round_to_i64", counts[3]);
-    line(b"ceil_to_u64", counts[4]);
-    line(b"max", counts[5]);
-    line(b"clamp", counts[6]);
-    line(b"to_f32", counts[7]);
-    line(b"to_f64", counts[8]);
-    line(b"mul_add", counts[9]);
-    io::print_decimal(STDOUT_FILENO, t.seen);
-    io::write_all(STDOUT_FILENO, b" vectors, ");
-    io::print_decimal(STDOUT_FILENO, t.wrong);
-    io::write_all(STDOUT_FILENO, b" wrong\n");
+    let ops = t.ops;
+    tally::line(b"to_u64", ops[0]);
+    tally::line(b"to_i64", ops[1]);
+    tally::line(b"round", ops[2]);
+    tally::line(b"round_to_i64", ops[3]);
+    tally::line(b"ceil_to_u64", ops[4]);
+    tally::line(b"max", ops[5]);
+    tally::line(b"clamp", ops[6]);
+    tally::line(b"to_f32", ops[7]);
+    tally::line(b"to_f64", ops[8]);
+    tally::line(b"mul_add", ops[9]);
+    tally::last_line(t);
 }

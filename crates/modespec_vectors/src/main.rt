@@ -1,16 +1,11 @@
 // Replays the Rust's rows and sizes of the sixteen modes, from the file `vectors` of short records.
-use libc::STDOUT_FILENO;
 use modespec::ChannelLayout;
 use modespec::Columns;
 use modespec::ModeSpec;
 use modespec::SyncPosition;
 use replay::Short;
-
-struct Tally {
-    seen: u64,
-    wrong: u64,
-    more: bool,
-}
+use replay::tally;
+use replay::tally::Tally;
 
 fn layout_number(spec: ModeSpec) -> u64 {
     let layout = spec.channel_layout;
@@ -92,47 +87,26 @@ fn right(op: u64, mode: u8, b: u64, c: u64, expected: u64) -> bool {
     }
 }
 
-fn counted(t: Tally, good: bool) -> Tally {
-    let seen = next_to(t.seen);
-    let wrong = if good { t.wrong } else { next_to(t.wrong) };
-    Tally {
-        seen,
-        wrong,
-        more: true,
-    }
-}
-
-fn next(fd: i32, t: Tally) -> Tally {
+// Takes one record.
+fn one(fd: i32, t: Tally) -> Tally {
     match replay::next_short(fd) {
+        Short::End => tally::ended(t),
+        Short::Cut => tally::cut(t),
         Short::Vector {
             op,
             a,
             b,
             c,
             expected,
-        } => counted(t, a < 16 && right(op, a as u8, b, c, expected)),
-        Short::Cut => Tally {
-            seen: t.seen,
-            wrong: next_to(t.wrong),
-            more: false,
-        },
-        Short::End => Tally {
-            seen: t.seen,
-            wrong: t.wrong,
-            more: false,
-        },
+        } => tally::counted(t, op, a < 16 && right(op, a as u8, b, c, expected)),
     }
 }
 
 fn all(fd: i32) -> Tally {
-    let mut t = Tally {
-        seen: 0,
-        wrong: 0,
-        more: true,
-    };
+    let mut t = tally::start();
     let mut turns = u64::MAX;
     while turns > 0 && t.more {
-        t = next(fd, t);
+        t = one(fd, t);
         turns -= 1;
     }
     t
@@ -147,8 +121,5 @@ fn main() {
     }
     let t = all(fd);
     libc::close(fd);
-    io::print_decimal(STDOUT_FILENO, t.seen);
-    io::write_all(STDOUT_FILENO, b" vectors, ");
-    io::print_decimal(STDOUT_FILENO, t.wrong);
-    io::write_all(STDOUT_FILENO, b" wrong\n");
+    tally::last_line(t);
 }

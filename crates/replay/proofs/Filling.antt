@@ -1,14 +1,14 @@
 -- A list whose first i places hold the first values of a function, and one place more. Assumes nothing.
 use mathlib.Core.Path.{_≡_, refl, sym, ap, _∙_, subst}
-use mathlib.Core.List.{List, [], _∷_, _++_, append-assoc}
+use mathlib.Core.List.{List, [], _∷_, _++_, append-assoc, append-nil}
 use Prim.Native.Nat.{ℕ, zero, suc, _+_, _-_, _*_, _/_, _≤_, _<_, min}
 use native.Mathlib.Numerals.{add-one}
 use native.Mathlib.Omega.{arith}
 use lib.ListN.{length, take, drop, set, length-append, length-drop}
-use lib.Seq.{drop-cons, set-at}
+use lib.Seq.{drop-cons, drop-length, set-at}
 use Rattle.replay.specs.Words.{each}
 
-length-each : {A : Type 0} (f : ℕ → A) (n : ℕ) → length (each f n) ≡ n
+pub length-each : {A : Type 0} (f : ℕ → A) (n : ℕ) → length (each f n) ≡ n
 unfolding each
 length-each f zero = refl
 length-each f (suc n) = length-append (each f n) (f n ∷ []) ∙ ap (λ (k : ℕ). k + 1) (length-each f n) ∙ add-one n
@@ -35,6 +35,9 @@ module _ {A : Type 0} (f : ℕ → A) (l : List A) where
       ∙ set-at (each f i) _ (drop (suc i) l) (f i) i (length-each f i)
       ∙ sym (append-assoc (each f i) (f i ∷ []) (drop (suc i) l))
       ∙ ap filled (sym (add-one i))
+
+  pub full : (i : ℕ) → i ≡ length l → filled i ≡ each f (length l)
+  full i e = ap filled e ∙ ap (λ (r : List A). each f (length l) ++ r) (drop-length l) ∙ append-nil (each f (length l))
 
 -- ---- the places that are shared
 pub inside : (b p n i : ℕ) → n ≡ min (b / 4) p → i < n → 4 * i + 4 ≤ b

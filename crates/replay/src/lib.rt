@@ -1,6 +1,9 @@
 // Reading vector files, with which test programs compare a function's answers with the Rust's. A short
 // record is five words: the operation, three operands, and the answer. A long record is eight words, of
 // which the last says how many bytes follow, and these bytes. A word has eight bytes, the least first.
+pub mod lists;
+pub mod tally;
+
 ghost use mathlib.Core.Path.{_≡_};
 ghost use Prim.Native.Nat.{_+_, _*_, _/_, _%_, _^_, _≤_, _<_, min};
 ghost use mathlib.Core.List.{_++_};
@@ -219,6 +222,27 @@ pub fn floats32(bytes: &[u8], out: &mut [f32]) -> usize
         i += 1;
     }
     n
+}
+
+// Fills a slice with one value.
+pub fn fill(out: &mut [u8], value: u8)
+    ensures { λ r. ⌜ now (out .exit) ≡ each (λ k. value) (length (now (out .entry))) ⌝ }
+{
+    let mut i = 0;
+    while i < out.len() {
+        out[i] = value;
+        i += 1;
+    }
+}
+
+pub fn fill32(out: &mut [f32], value: f32)
+    ensures { λ r. ⌜ now (out .exit) ≡ each (λ k. value) (length (now (out .entry))) ⌝ }
+{
+    let mut i = 0;
+    while i < out.len() {
+        out[i] = value;
+        i += 1;
+    }
 }
 
 // The place n after `from`, or `len` where that is nearer.

@@ -289,11 +289,6 @@ pub fn start(v: &Vector, _: &mut Live) -> Option<bool> {
             let line = placed.first_pulsed_line(v.c as usize, width);
             line.map_or(NOWHERE, |y| y as u64) == v.x
         }
-        3 => {
-            let placed = at(mode, v.b as usize, &flags, &[], 0);
-            let (column, line) = ((v.c as u32) as usize, (v.c >> 32) as usize);
-            u64::from(placed.line_is_pulsed(line, column)) == v.x
-        }
         _ => return None,
     })
 }

@@ -12,7 +12,7 @@ use slowrx::sync_start::access as sync_start;
 
 /// The inner functions, for what no evaluation reaches: any column is asked
 /// about, not only the best one. Op 2 is `first_pulsed_line` (a mode, b j,
-/// c column; x line or none), op 3 `line_is_pulsed` (c column and line).
+/// c column; x line or none).
 ///
 /// # Errors
 /// Classes that were not reached.
@@ -68,8 +68,6 @@ pub fn vectors() -> Result<Records, String> {
             tally.note("narrow pulse, a line", !wide && found.is_some());
             let y = rng.index(sync_start::window_lines(row));
             let pulsed = placed.line_is_pulsed(y, column);
-            let a = [mode as u64, j as u64, column as u64 | (y as u64) << 32];
-            records.long(3, a, [u64::from(pulsed), 0, 0], &payload);
             tally.note("line pulsed", pulsed);
             tally.note("line not pulsed", !pulsed);
         }

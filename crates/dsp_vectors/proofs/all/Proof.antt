@@ -5,10 +5,13 @@ use Rattle.dsp_vectors.proofs.all.Statement.{statement}
 use Rattle.dsp_vectors.proofs.all.Tie as tie
 
 abbrev Inv-loop : tie.InvT-loop
-Inv-loop fd counts₀ t₀ turns₀ counts t turns = Unit {0}
+Inv-loop fd t₀ turns₀ t turns = Unit {0}
 
 abbrev μ-loop : tie.MeasureT-loop
-μ-loop fd counts₀ t₀ turns₀ counts t turns = turns
+μ-loop fd t₀ turns₀ t turns = turns
+
+start-requires : tie.Need-start-requires Inv-loop μ-loop
+start-requires c κs = tt
 
 loop-holds : tie.Need-loop-holds Inv-loop μ-loop
 loop-holds c = tt
@@ -34,4 +37,4 @@ returns-2 c = tt
 pub all-spec : {M : Type 1} → statement M
 all-spec =
     tie.close
-    (tie.spec Inv-loop μ-loop loop-holds one-requires sub-turns loop-less loop-again returns returns-2)
+    (tie.spec Inv-loop μ-loop start-requires loop-holds one-requires sub-turns loop-less loop-again returns returns-2)

@@ -10,11 +10,14 @@ Inv-loop fd t₀ turns₀ t turns = Unit {0}
 abbrev μ-loop : tie.MeasureT-loop
 μ-loop fd t₀ turns₀ t turns = turns
 
+start-requires : tie.Need-start-requires Inv-loop μ-loop
+start-requires c κs = tt
+
 loop-holds : tie.Need-loop-holds Inv-loop μ-loop
 loop-holds c = tt
 
-next-requires : tie.Need-next-requires Inv-loop μ-loop
-next-requires c κs = tt
+one-requires : tie.Need-one-requires Inv-loop μ-loop
+one-requires c κs = tt
 
 sub-turns : tie.Need-sub-turns Inv-loop μ-loop
 sub-turns c = omega arith
@@ -34,4 +37,4 @@ returns-2 c = tt
 pub all-spec : {M : Type 1} → statement M
 all-spec =
     tie.close
-    (tie.spec Inv-loop μ-loop loop-holds next-requires sub-turns loop-less loop-again returns returns-2)
+    (tie.spec Inv-loop μ-loop start-requires loop-holds one-requires sub-turns loop-less loop-again returns returns-2)

@@ -1,0 +1,62 @@
+-- A host's list of calls on one session (01-scope.md, "Session"): each step is one that the exported call's `ensures` allows. Definitions only.
+use Prim.Native.Nat.{ℕ}
+use mathlib.Core.Bool.{cond}
+use mathlib.Core.List.{List, [], _∷_}
+use lib.Dec.{eqb}
+use lib.Ieee.{Float}
+use Rattle.plain.specs.Point.{Point, Stage, reported, unfound, cutShort}
+use Rattle.plain.specs.Calls.{Call, read, Answer, took, gave, refused}
+use Rattle.session.specs.declared.Session.{Session}
+use Rattle.session.specs.declared.Opened.the-variants.{Ready}
+use Rattle.session.specs.Hold.{OpenMeets, feedCall}
+use Rattle.session.specs.Trace.{Trace}
+use Rattle.funnelivy.specs.declared.FunnelivySession.{FunnelivySession}
+use Rattle.funnelivy.specs.declared.FunnelivyFed.{FunnelivyFed}
+use Rattle.funnelivy.specs.declared.FunnelivyReading.{FunnelivyReading}
+use Rattle.funnelivy.specs.Record.{slantOf, sessionOf}
+use Rattle.funnelivy.specs.Session.{FedMeets, ReadingMeets}
+
+-- ---- what a host reads off the numbers
+
+abbrev pub fedAnswer : FunnelivyFed → Answer
+fedAnswer r = cond (eqb (r .refusal) 0) (took (r .taken)) (refused (r .refusal))
+
+-- the record to go on with: a refusal returns none
+abbrev pub nextOf : FunnelivySession → FunnelivyFed → FunnelivySession
+nextOf w r = cond (eqb (r .refusal) 0) (r .session) w
+
+abbrev pub stageOf : FunnelivyReading → Stage
+stageOf r =
+    cond (eqb (r .end) 0) (reported (r .start) (r .«start_quality») (r .rate) (slantOf (r .«has_slant») (r .slant)) (r .skip) (r .quality))
+    (cond (eqb (r .end) 1) unfound (cutShort (r .start) (r .«start_quality»)))
+
+abbrev pub readingPoint : FunnelivyReading → Point
+readingPoint r = record { stage = stageOf r; taken = r .taken; evaluations = r .evaluations }
+
+abbrev pub readAnswer : FunnelivyReading → Answer
+readAnswer r = cond (eqb (r .refusal) 0) (gave (readingPoint r)) (refused (r .refusal))
+
+-- ---- the list
+
+-- Each call gets the record last returned and the stores as last left; the work memory may hold anything.
+pub data HostTrace : FunnelivySession → List ℕ → List Float → List Call → List Answer → FunnelivySession → List ℕ → List Float → Type 0 where
+  done : (w : FunnelivySession) (flagStore : List ℕ) (sampleStore : List Float) → HostTrace w flagStore sampleStore [] [] w flagStore sampleStore
+  feeds : (w : FunnelivySession) (flagStore : List ℕ) (sampleStore : List Float) (img votes flags : List ℕ) (samples : List Float)
+      (r : FunnelivyFed) (flagStore' : List ℕ) (sampleStore' : List Float) (img' votes' : List ℕ)
+      (cs : List Call) (as' : List Answer) (z : FunnelivySession) (flagEnd : List ℕ) (sampleEnd : List Float)
+      → FedMeets w flagStore sampleStore img votes flags samples r flagStore' sampleStore' img' votes'
+      → HostTrace (nextOf w r) flagStore' sampleStore' cs as' z flagEnd sampleEnd
+      → HostTrace w flagStore sampleStore (feedCall flagStore sampleStore img votes flags samples ∷ cs) (fedAnswer r ∷ as') z flagEnd sampleEnd
+  reads : (w : FunnelivySession) (flagStore : List ℕ) (sampleStore : List Float) (r : FunnelivyReading)
+      (cs : List Call) (as' : List Answer) (z : FunnelivySession) (flagEnd : List ℕ) (sampleEnd : List Float)
+      → ReadingMeets w r
+      → HostTrace w flagStore sampleStore cs as' z flagEnd sampleEnd
+      → HostTrace w flagStore sampleStore (read ∷ cs) (readAnswer r ∷ as') z flagEnd sampleEnd
+
+-- the list is one on a session that open gave, and ends in the session that the last record says
+pub record Followed
+    (mode anchor : ℕ) (flagStore : List ℕ) (sampleStore first sampleStore' : List Float) (cs : List Call) (as' : List Answer)
+    (z : FunnelivySession) (flagEnd : List ℕ) (sampleEnd : List Float) : Type 0 where
+  pub session : Session
+  pub opened : OpenMeets mode anchor flagStore sampleStore first (Ready session) sampleStore'
+  pub trace : Trace session flagStore sampleStore' cs as' (sessionOf z) flagEnd sampleEnd

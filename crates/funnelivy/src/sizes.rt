@@ -1,0 +1,45 @@
+// Sizes of a mode, and the columns of its pulse.
+ghost use mathlib.Core.Path.{_≡_};
+ghost use Rattle.modespec.specs.Calls.{columnsOf};
+ghost use Rattle.funnelivy.specs.Sizes.{sizesAnswer, columnsWire};
+use crate::FunnelivyColumnsAnswer;
+use crate::FunnelivySizesAnswer;
+use modespec::Columns;
+
+// The sizes from which a host makes its stores. Refuses a mode above 15 with 1.
+#[no_mangle]
+pub extern "C" fn funnelivy_sizes(mode: u8) -> FunnelivySizesAnswer
+    ensures { λ r. ⌜ r ≡ sizesAnswer mode ⌝ }
+{
+    if mode > 15 {
+        return FunnelivySizesAnswer {
+            refusal: 1,
+            window: 0,
+            picture: 0,
+        };
+    }
+    let spec = modespec::for_mode(mode);
+    FunnelivySizesAnswer {
+        refusal: 0,
+        window: modespec::window_probes(spec) as u64,
+        picture: modespec::image_probes(spec, 11025.0) as u64,
+    }
+}
+
+// `sync_pulse_columns`.
+#[no_mangle]
+pub extern "C" fn funnelivy_columns(mode: u8, n: u64) -> FunnelivyColumnsAnswer
+    ensures { λ r. ⌜ r ≡ columnsWire (columnsOf mode n) ⌝ }
+{
+    let answer = modespec::sync_pulse_columns(mode, n as usize);
+    match answer {
+        Columns::Count(columns) => FunnelivyColumnsAnswer {
+            refusal: 0,
+            columns: columns as u64,
+        },
+        Columns::Refused(number) => FunnelivyColumnsAnswer {
+            refusal: number as u32,
+            columns: 0,
+        },
+    }
+}

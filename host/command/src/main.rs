@@ -1,0 +1,287 @@
+//! The command `funnelivy`.
+
+mod flags;
+mod ledger;
+mod modes;
+mod synth;
+mod wav;
+
+use clap::{Parser, Subcommand};
+use flags::Prober;
+use funnelivy::machine::Port;
+use ledger::{pictures, Keeping, Picture};
+use modes::{mode_by_name, ModeTiming, MODE_NAMES};
+use std::io::{IsTerminal, Write};
+use std::path::{Path, PathBuf};
+use std::process::ExitCode;
+
+/// Where slow-scan pictures start in a recording, and how they lean.
+///
+/// Exit status: 0 done; 1 an answer differs, or no picture was found; 2 a file
+/// or an argument is not what it should be.
+#[derive(Parser)]
+#[command(name = "funnelivy", version)]
+struct Arguments {
+    #[command(subcommand)]
+    command: Command,
+}
+
+#[derive(Subcommand)]
+enum Command {
+    /// Make each call of recordings again and print the answers that differ
+    Replay {
+        /// Recordings
+        #[arg(required = true)]
+        files: Vec<PathBuf>,
+    },
+    /// Write a recording with this machine's answers to standard output
+    Record {
+        /// Calls, with or without answers
+        file: PathBuf,
+    },
+    /// A line for each picture of a mono WAV file at 11,025 Hz
+    Ledger {
+        file: PathBuf,
+        /// The mode's name, as "Robot 36", or its number
+        #[arg(long, value_parser = mode)]
+        mode: u8,
+        /// The number of the file's first sample
+        #[arg(long, default_value_t = 0)]
+        anchor: u64,
+        /// Flags of a feed
+        #[arg(long, default_value_t = 64, value_parser = clap::value_parser!(u32).range(1..))]
+        block: u32,
+    },
+    /// Primary and standby side by side: whether their ledgers agree
+    Takeover {
+        file: PathBuf,
+        /// The mode's name, as "Robot 36", or its number
+        #[arg(long, value_parser = mode)]
+        mode: u8,
+        /// The sample at which the standby takes over
+        #[arg(long)]
+        at: u64,
+    },
+    /// Write a synthesised transmission: two pictures, with slant and noise
+    Synthesise {
+        file: PathBuf,
+        /// pd120, robot36, scottie1 or martin1
+        #[arg(long, value_parser = mode, default_value = "robot36")]
+        mode: u8,
+        /// The sender's sampling rate as heard here, in Hz
+        #[arg(long, default_value_t = 11_028.0)]
+        rate: f64,
+        /// Noise as a part of full scale
+        #[arg(long, default_value_t = 0.05)]
+        noise: f32,
+    },
+}
+
+fn mode(name: &str) -> Result<u8, String> {
+    mode_by_name(name).ok_or_else(|| {
+        format!(
+            "no such mode; the modes are {} or 0 to 15",
+            MODE_NAMES.join(", ")
+        )
+    })
+}
+
+/// What keeps the command from doing its work, in words.
+type Trouble = String;
+
+fn main() -> ExitCode {
+    match run(Arguments::parse().command) {
+        Ok(true) => ExitCode::SUCCESS,
+        Ok(false) => ExitCode::from(1),
+        Err(trouble) => {
+            eprintln!("funnelivy: {trouble}");
+            ExitCode::from(2)
+        }
+    }
+}
+
+fn run(command: Command) -> Result<bool, Trouble> {
+    match command {
+        Command::Replay { files } => {
+            recording::commands::replay_files(&files, || Box::<Port>::default())
+        }
+        Command::Record { file } => {
+            recording::commands::record_file(&file, &mut Port::default()).map(|()| true)
+        }
+        Command::Ledger {
+            file,
+            mode,
+            anchor,
+            block,
+        } => print_pictures(&file, mode, anchor, block),
+        Command::Takeover { file, mode, at } => takeover(&file, mode, at),
+        Command::Synthesise {
+            file,
+            mode,
+            rate,
+            noise,
+        } => synthesise(&file, mode, rate, noise).map(|()| true),
+    }
+}
+
+/// A sound with its probe flags.
+struct Heard {
+    sound: Vec<f32>,
+    flags: Vec<u8>,
+}
+
+fn hear(file: &Path) -> Result<Heard, Trouble> {
+    let name = file.display();
+    let open = std::fs::File::open(file).map_err(|e| format!("{name} cannot be read: {e}"))?;
+    let sound = wav::read_wav(open).map_err(|e| format!("{name} {e}"))?;
+    let terminal = std::io::stderr().is_terminal();
+    let flags = Prober::new()
+        .flags(&sound, |done, all| {
+            if terminal && all > 0 {
+                eprint!("\rhearing {name}: {}%", 100 * done / all);
+                if done == all {
+                    eprintln!();
+                }
+            }
+        })
+        .map_err(|refusal| format!("{name}: {refusal}"))?;
+    Ok(Heard { sound, flags })
+}
+
+fn line(number: usize, picture: &Picture) -> String {
+    let begin = format!(
+        "picture {number}: start {}, start quality {:.3}",
+        picture.start, picture.start_quality
+    );
+    match picture.report {
+        None => format!("{begin}; the sound ends before the picture"),
+        Some(r) => format!(
+            "{begin}, rate {:.3} Hz, slant {}, skip {}, quality {:.3}",
+            r.rate,
+            r.slant
+                .map_or_else(|| "none".to_owned(), |d| format!("{d:.1}°")),
+            r.skip,
+            r.quality
+        ),
+    }
+}
+
+fn print_ledger(title: &str, found: &[(usize, Picture)]) {
+    println!("{title}");
+    if found.is_empty() {
+        println!("  no picture");
+    }
+    for (number, (_, picture)) in found.iter().enumerate() {
+        println!("  {}", line(number + 1, picture));
+    }
+}
+
+fn print_pictures(file: &Path, mode: u8, anchor: u64, block: u32) -> Result<bool, Trouble> {
+    let heard = hear(file)?;
+    let keeping = Keeping {
+        mode,
+        anchor,
+        block: block as usize,
+    };
+    let found = pictures(&keeping, &heard.flags, &heard.sound, 0).map_err(|r| r.to_string())?;
+    print_ledger(
+        &format!(
+            "{}: {} samples as {}",
+            file.display(),
+            heard.sound.len(),
+            MODE_NAMES[usize::from(mode)]
+        ),
+        &found,
+    );
+    Ok(!found.is_empty())
+}
+
+/// The standby counts from zero where the session that the primary has open
+/// at `at` began, and feeds other blocks.
+fn takeover(file: &Path, mode: u8, at: u64) -> Result<bool, Trouble> {
+    const PRIMARY_ANCHOR: u64 = 1_000_000;
+    let heard = hear(file)?;
+    if at >= heard.sound.len() as u64 {
+        return Err(format!(
+            "--at {at} is past the sound's {} samples",
+            heard.sound.len()
+        ));
+    }
+    let primary = Keeping {
+        mode,
+        anchor: PRIMARY_ANCHOR,
+        block: 64,
+    };
+    let words = |r: funnelivy::Refusal| r.to_string();
+    let whole = pictures(&primary, &heard.flags, &heard.sound, 0).map_err(words)?;
+    // The primary's session at that sample: the last one begun by then.
+    let mut first = 0;
+    for (begun, picture) in &whole {
+        let end = picture.start - PRIMARY_ANCHOR;
+        if 4 * (*begun as u64) <= at {
+            first = *begun;
+        }
+        if end > at {
+            break;
+        }
+    }
+    let sound = &heard.sound[4 * first..];
+    let standby = Keeping {
+        mode,
+        anchor: 0,
+        block: 1_021,
+    };
+    let taken_over = pictures(&standby, &heard.flags[first..], sound, 0).map_err(words)?;
+    let offset = PRIMARY_ANCHOR + 4 * first as u64;
+    let expected: Vec<Picture> = whole
+        .iter()
+        .filter(|(begun, _)| *begun >= first)
+        .map(|(_, p)| Picture {
+            start: p.start - offset,
+            ..*p
+        })
+        .collect();
+    print_ledger(
+        &format!("primary, anchor {PRIMARY_ANCHOR}, blocks of 64 flags:"),
+        &whole,
+    );
+    print_ledger(
+        &format!(
+            "standby from the session open at sample {at} (it began at sample {}), \
+             anchor 0, blocks of 1,021 flags:",
+            4 * first
+        ),
+        &taken_over,
+    );
+    let agree = taken_over
+        .iter()
+        .map(|(_, p)| *p)
+        .eq(expected.iter().copied());
+    println!(
+        "the ledgers {}",
+        if agree {
+            "agree: every start less the anchor, rate, slant, skip and quality is the same"
+        } else {
+            "DIFFER"
+        }
+    );
+    Ok(agree)
+}
+
+fn synthesise(file: &Path, mode: u8, rate: f64, noise: f32) -> Result<(), Trouble> {
+    let timing =
+        ModeTiming::of(mode).ok_or("only pd120, robot36, scottie1 and martin1 are synthesised")?;
+    let picture = |seed| synth::Picture {
+        timing,
+        true_rate_hz: rate,
+        noise,
+        seed,
+    };
+    let mut sound = synth::transmission(&picture(0x5351), 3.0, 1.5);
+    sound.extend(synth::transmission(&picture(0x5352), 2.0, 3.0));
+    let mut bytes = Vec::new();
+    wav::write_wav(&mut bytes, &sound).map_err(|e| e.to_string())?;
+    std::fs::File::create(file)
+        .and_then(|mut f| f.write_all(&bytes))
+        .map_err(|e| format!("{} cannot be written: {e}", file.display()))
+}

@@ -1,0 +1,160 @@
+//! The port as a machine that recordings are replayed on.
+
+use crate::{
+    best_pulse_window, falling_edge, find_sync, has_sync, sizes, sync_pulse_columns, sync_quality,
+    sync_window, End, Refusal, Session, Work,
+};
+use recording::{Answer, Call, Machine};
+
+/// The port, with the session opened last.
+#[derive(Default)]
+pub struct Port {
+    session: Option<Session>,
+}
+
+fn mode_number(mode: u64) -> u8 {
+    u8::try_from(mode).unwrap_or(u8::MAX)
+}
+
+fn count(n: u64) -> usize {
+    usize::try_from(n).unwrap_or(usize::MAX)
+}
+
+fn report(r: crate::Report) -> recording::Report {
+    recording::Report {
+        rate: r.rate,
+        slant: r.slant,
+        skip: r.skip,
+        quality: r.quality,
+    }
+}
+
+fn or_refused(answer: Result<Answer, Refusal>) -> Answer {
+    answer.unwrap_or_else(|r| Answer::Refused(r.0.into()))
+}
+
+fn open(
+    session: &mut Option<Session>,
+    mode: u64,
+    anchor: u64,
+    (flags, samples): (recording::Length, recording::Length),
+    first: &[f32],
+) -> Result<Answer, Refusal> {
+    let mode = mode_number(mode);
+    let asked = sizes(mode).map_or(0, |s| s.window + s.picture);
+    let flags = count(flags.or(asked));
+    let robot = mode == 3 || mode == 4;
+    let asked = if robot { 4 * flags as u64 + 4 } else { 0 };
+    let samples = count(samples.or(asked));
+    let opened = Session::open_with(mode, anchor, vec![0; flags], vec![0.0; samples], first)?;
+    *session = Some(opened);
+    Ok(Answer::Opened)
+}
+
+fn read(session: &Session) -> Result<Answer, Refusal> {
+    let reading = session.read()?;
+    Ok(Answer::Read {
+        end: match reading.end {
+            End::Reported {
+                start,
+                start_quality,
+                report: r,
+            } => recording::End::Reported {
+                start,
+                start_quality,
+                report: report(r),
+            },
+            End::Unfound => recording::End::Unfound,
+            End::CutShort {
+                start,
+                start_quality,
+            } => recording::End::CutShort {
+                start,
+                start_quality,
+            },
+        },
+        taken: reading.taken,
+        evaluations: reading.evaluations,
+    })
+}
+
+impl Machine for Port {
+    fn make(&mut self, call: &Call) -> Option<Answer> {
+        let work = Work::new();
+        let (image, cells) = (work.img.len() as u64, work.votes.len() as u64);
+        Some(or_refused(match call {
+            Call::Columns { mode, n } => {
+                sync_pulse_columns(mode_number(*mode), *n).map(Answer::Count)
+            }
+            Call::Window { width, counts } => {
+                best_pulse_window(counts, *width).map(|w| Answer::Window {
+                    start: w.start,
+                    sum: w.sum,
+                })
+            }
+            Call::Quality {
+                mode,
+                lines,
+                counts,
+            } => sync_quality(counts, mode_number(*mode), *lines).map(Answer::Quality),
+            Call::Edge { counts } => falling_edge(counts).map(Answer::Column),
+            Call::Find {
+                mode,
+                rate,
+                img,
+                votes,
+                flags,
+            } => {
+                let mut img = vec![0; count(img.or(image))];
+                let mut votes = vec![0; count(votes.or(cells))];
+                find_sync(flags, *rate, mode_number(*mode), &mut img, &mut votes)
+                    .map(|r| Answer::Found(report(r)))
+            }
+            Call::Fill {
+                centre,
+                buffer,
+                sound,
+            } => {
+                let mut buffer = vec![0.0; count(buffer.or(512))];
+                sync_window(sound, *centre, &mut buffer).map(|()| Answer::Filled(buffer))
+            }
+            Call::Probe { shift, spectrum } => has_sync(spectrum, *shift).map(Answer::Decided),
+            Call::Open {
+                mode,
+                anchor,
+                flag_store,
+                sample_store,
+                samples,
+            } => open(
+                &mut self.session,
+                *mode,
+                *anchor,
+                (*flag_store, *sample_store),
+                samples,
+            ),
+            Call::Feed {
+                flag_store,
+                sample_store,
+                img,
+                votes,
+                flags,
+                samples,
+            } => {
+                let session = self.session.as_mut()?;
+                let (own_flags, own_samples) = session.store_lengths();
+                let lengths = (
+                    count(flag_store.or(own_flags as u64)),
+                    count(sample_store.or(own_samples as u64)),
+                );
+                let mut work = Work {
+                    img: vec![0; count(img.or(image))],
+                    votes: vec![0; count(votes.or(cells))],
+                };
+                session
+                    .feed_lent(lengths, flags, samples, &mut work)
+                    .map(Answer::Took)
+            }
+            Call::Read => read(self.session.as_ref()?),
+        }))
+    }
+}

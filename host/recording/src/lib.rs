@@ -1,0 +1,286 @@
+//! Recordings: calls and their answers as text, one to a line.
+//!
+//! A machine's answers are recorded once and made again on another machine.
+//! The first line is `funnelivy recording 1`; after it each line is empty, a
+//! comment that starts with `#`, or `CALL = ANSWER`. Nothing is guessed: a
+//! line that is anything else is an [`Error`] with its number.
+
+pub mod commands;
+mod list;
+mod parse;
+mod run;
+
+pub use list::{read_floats, read_numbers, write_floats, write_numbers, Source};
+pub use parse::{parse, Entry, Recording};
+pub use run::{record, replay, Machine, Outcome};
+
+use std::fmt;
+
+/// The first line of every recording.
+pub const HEADER: &str = "funnelivy recording 1";
+
+/// A length of lent memory: a number, or `*`, the length that is asked for.
+#[derive(Clone, Copy, Debug, PartialEq, Eq)]
+pub enum Length {
+    /// This many places.
+    Exactly(u64),
+    /// As many as the call asks for; at feed, as many as open was given.
+    AsAsked,
+}
+
+impl Length {
+    /// The number, where `asked` is what `*` stands for.
+    #[must_use]
+    pub fn or(self, asked: u64) -> u64 {
+        match self {
+            Self::Exactly(n) => n,
+            Self::AsAsked => asked,
+        }
+    }
+}
+
+impl fmt::Display for Length {
+    fn fmt(&self, f: &mut fmt::Formatter<'_>) -> fmt::Result {
+        match self {
+            Self::Exactly(n) => write!(f, "{n}"),
+            Self::AsAsked => f.write_str("*"),
+        }
+    }
+}
+
+/// One call with its arguments.
+#[derive(Clone, Debug, PartialEq)]
+pub enum Call {
+    /// `sync_pulse_columns`.
+    Columns { mode: u64, n: u64 },
+    /// `best_pulse_window`.
+    Window { width: u64, counts: Vec<u32> },
+    /// `sync_quality`.
+    Quality {
+        mode: u64,
+        lines: u64,
+        counts: Vec<u32>,
+    },
+    /// `falling_edge_from_x_acc`.
+    Edge { counts: Vec<u32> },
+    /// `find_sync`.
+    Find {
+        mode: u64,
+        rate: f64,
+        img: Length,
+        votes: Length,
+        flags: Vec<u8>,
+    },
+    /// The spectrum window.
+    Fill {
+        centre: u64,
+        buffer: Length,
+        sound: Vec<f32>,
+    },
+    /// `has_sync_at` on a spectrum.
+    Probe { shift: f64, spectrum: Vec<f32> },
+    /// Opens a new session.
+    Open {
+        mode: u64,
+        anchor: u64,
+        flag_store: Length,
+        sample_store: Length,
+        samples: Vec<f32>,
+    },
+    /// Feeds the session opened last.
+    Feed {
+        flag_store: Length,
+        sample_store: Length,
+        img: Length,
+        votes: Length,
+        flags: Vec<u8>,
+        samples: Vec<f32>,
+    },
+    /// Reads the session opened last.
+    Read,
+}
+
+/// A report: rate, slant in degrees where one was found, skip and quality.
+#[derive(Clone, Copy, Debug, PartialEq)]
+pub struct Report {
+    pub rate: f64,
+    pub slant: Option<f64>,
+    pub skip: i64,
+    pub quality: f32,
+}
+
+/// What read gives at a session's end.
+#[derive(Clone, Copy, Debug, PartialEq)]
+pub enum End {
+    Reported {
+        start: u64,
+        start_quality: f32,
+        report: Report,
+    },
+    Unfound,
+    CutShort {
+        start: u64,
+        start_quality: f32,
+    },
+}
+
+/// The answer to a call.
+#[derive(Clone, Debug, PartialEq)]
+pub enum Answer {
+    Refused(u64),
+    Count(u64),
+    Window {
+        start: u64,
+        sum: u64,
+    },
+    Quality(f32),
+    Column(u64),
+    Found(Report),
+    Filled(Vec<f32>),
+    Decided(bool),
+    Opened,
+    Took(u64),
+    Read {
+        end: End,
+        taken: u64,
+        evaluations: u64,
+    },
+}
+
+fn f64_bits(x: f64) -> String {
+    format!("{:016x}", x.to_bits())
+}
+
+fn f32_bits(x: f32) -> String {
+    format!("{:08x}", x.to_bits())
+}
+
+impl fmt::Display for Report {
+    fn fmt(&self, f: &mut fmt::Formatter<'_>) -> fmt::Result {
+        let slant = self.slant.map_or_else(|| "none".to_owned(), f64_bits);
+        write!(
+            f,
+            "{} {slant} {} {}",
+            f64_bits(self.rate),
+            self.skip,
+            f32_bits(self.quality)
+        )
+    }
+}
+
+impl fmt::Display for Answer {
+    fn fmt(&self, f: &mut fmt::Formatter<'_>) -> fmt::Result {
+        match self {
+            Self::Refused(k) => write!(f, "refused {k}"),
+            Self::Count(n) | Self::Column(n) => write!(f, "{n}"),
+            Self::Window { start, sum } => write!(f, "{start} {sum}"),
+            Self::Quality(q) => f.write_str(&f32_bits(*q)),
+            Self::Found(report) => report.fmt(f),
+            Self::Filled(values) => f.write_str(&write_floats(values)),
+            Self::Decided(yes) => f.write_str(if *yes { "yes" } else { "no" }),
+            Self::Opened => f.write_str("opened"),
+            Self::Took(n) => write!(f, "took {n}"),
+            Self::Read {
+                end,
+                taken,
+                evaluations,
+            } => match end {
+                End::Reported {
+                    start,
+                    start_quality,
+                    report,
+                } => write!(
+                    f,
+                    "reported {taken} {evaluations} {start} {} {report}",
+                    f32_bits(*start_quality)
+                ),
+                End::Unfound => write!(f, "unfound {taken} {evaluations}"),
+                End::CutShort {
+                    start,
+                    start_quality,
+                } => write!(
+                    f,
+                    "cutshort {taken} {evaluations} {start} {}",
+                    f32_bits(*start_quality)
+                ),
+            },
+        }
+    }
+}
+
+impl fmt::Display for Call {
+    fn fmt(&self, f: &mut fmt::Formatter<'_>) -> fmt::Result {
+        match self {
+            Self::Columns { mode, n } => write!(f, "columns {mode} {n}"),
+            Self::Window { width, counts } => write!(f, "window {width} {}", write_numbers(counts)),
+            Self::Quality {
+                mode,
+                lines,
+                counts,
+            } => write!(f, "quality {mode} {lines} {}", write_numbers(counts)),
+            Self::Edge { counts } => write!(f, "edge {}", write_numbers(counts)),
+            Self::Find {
+                mode,
+                rate,
+                img,
+                votes,
+                flags,
+            } => write!(
+                f,
+                "find {mode} {} {img} {votes} {}",
+                f64_bits(*rate),
+                write_numbers(flags)
+            ),
+            Self::Fill {
+                centre,
+                buffer,
+                sound,
+            } => write!(f, "fill {centre} {buffer} {}", write_floats(sound)),
+            Self::Probe { shift, spectrum } => {
+                write!(f, "probe {} {}", f64_bits(*shift), write_floats(spectrum))
+            }
+            Self::Open {
+                mode,
+                anchor,
+                flag_store,
+                sample_store,
+                samples,
+            } => write!(
+                f,
+                "open {mode} {anchor} {flag_store} {sample_store} {}",
+                write_floats(samples)
+            ),
+            Self::Feed {
+                flag_store,
+                sample_store,
+                img,
+                votes,
+                flags,
+                samples,
+            } => write!(
+                f,
+                "feed {flag_store} {sample_store} {img} {votes} {} {}",
+                write_numbers(flags),
+                write_floats(samples)
+            ),
+            Self::Read => f.write_str("read"),
+        }
+    }
+}
+
+/// A line that is no part of a recording, or a file that could not be read.
+#[derive(Clone, Debug, PartialEq, Eq)]
+pub struct Error {
+    /// The line's number, from 1.
+    pub line: usize,
+    /// What was expected there.
+    pub expected: String,
+}
+
+impl fmt::Display for Error {
+    fn fmt(&self, f: &mut fmt::Formatter<'_>) -> fmt::Result {
+        write!(f, "line {}: expected {}", self.line, self.expected)
+    }
+}
+
+impl std::error::Error for Error {}

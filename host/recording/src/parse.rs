@@ -1,0 +1,223 @@
+//! The text of a recording, line by line.
+
+use crate::list::{bits, decimal};
+use crate::{read_floats, read_numbers, Answer, Call, End, Error, Length, Report, Source, HEADER};
+
+/// A call and, where the line has one, its answer.
+#[derive(Clone, Debug, PartialEq)]
+pub struct Entry {
+    /// The line's number, from 1.
+    pub line: usize,
+    pub call: Call,
+    pub answer: Option<Answer>,
+}
+
+/// The calls of a recording in order.
+#[derive(Clone, Debug, PartialEq)]
+pub struct Recording {
+    pub entries: Vec<Entry>,
+}
+
+/// Reads a recording. With `answers` each call must have one.
+///
+/// # Errors
+/// The first line that is no part of a recording.
+pub fn parse(text: &str, source: Source<'_>, answers: bool) -> Result<Recording, Error> {
+    let at = |line: usize| {
+        move |expected: String| Error {
+            line: line + 1,
+            expected,
+        }
+    };
+    let mut entries = Vec::new();
+    for (number, line) in text.lines().enumerate() {
+        if number == 0 {
+            if line != HEADER {
+                return Err(at(0)(format!("`{HEADER}`")));
+            }
+            continue;
+        }
+        if line.is_empty() || line.starts_with('#') {
+            continue;
+        }
+        let (call, answer) = match line.split_once(" = ") {
+            Some((call, answer)) => (call, Some(answer)),
+            None if answers => return Err(at(number)("`CALL = ANSWER`".to_owned())),
+            None => (line, None),
+        };
+        let call = parse_call(call, source).map_err(at(number))?;
+        let answer = answer
+            .map(|a| parse_answer(&call, a, source))
+            .transpose()
+            .map_err(at(number))?;
+        entries.push(Entry {
+            line: number + 1,
+            call,
+            answer,
+        });
+    }
+    if text.is_empty() {
+        return Err(at(0)(format!("`{HEADER}`")));
+    }
+    Ok(Recording { entries })
+}
+
+fn number(text: &str) -> Result<u64, String> {
+    decimal(text).ok_or_else(|| format!("a decimal number instead of `{text}`"))
+}
+
+fn signed(text: &str) -> Result<i64, String> {
+    let digits = text.strip_prefix('-').unwrap_or(text);
+    let plain = decimal::<u64>(digits).and_then(|_| text.parse().ok());
+    plain.ok_or_else(|| format!("a whole number instead of `{text}`"))
+}
+
+fn length(text: &str) -> Result<Length, String> {
+    if text == "*" {
+        return Ok(Length::AsAsked);
+    }
+    decimal(text)
+        .map(Length::Exactly)
+        .ok_or_else(|| format!("a length or `*` instead of `{text}`"))
+}
+
+fn double(text: &str) -> Result<f64, String> {
+    bits(text, 16)
+        .map(f64::from_bits)
+        .ok_or_else(|| format!("the 16 hexadecimal digits of an f64 instead of `{text}`"))
+}
+
+fn single(text: &str) -> Result<f32, String> {
+    bits(text, 8)
+        .and_then(|b| u32::try_from(b).ok())
+        .map(f32::from_bits)
+        .ok_or_else(|| format!("the 8 hexadecimal digits of an f32 instead of `{text}`"))
+}
+
+fn parse_call(text: &str, source: Source<'_>) -> Result<Call, String> {
+    let words: Vec<&str> = text.split(' ').collect();
+    Ok(match words[..] {
+        ["columns", mode, n] => Call::Columns {
+            mode: number(mode)?,
+            n: number(n)?,
+        },
+        ["window", width, counts] => Call::Window {
+            width: number(width)?,
+            counts: read_numbers(counts, source)?,
+        },
+        ["quality", mode, lines, counts] => Call::Quality {
+            mode: number(mode)?,
+            lines: number(lines)?,
+            counts: read_numbers(counts, source)?,
+        },
+        ["edge", counts] => Call::Edge {
+            counts: read_numbers(counts, source)?,
+        },
+        ["find", mode, rate, img, votes, flags] => Call::Find {
+            mode: number(mode)?,
+            rate: double(rate)?,
+            img: length(img)?,
+            votes: length(votes)?,
+            flags: read_numbers(flags, source)?,
+        },
+        ["fill", centre, buffer, sound] => Call::Fill {
+            centre: number(centre)?,
+            buffer: length(buffer)?,
+            sound: read_floats(sound, source)?,
+        },
+        ["probe", shift, spectrum] => Call::Probe {
+            shift: double(shift)?,
+            spectrum: read_floats(spectrum, source)?,
+        },
+        ["open", mode, anchor, flag_store, sample_store, samples] => Call::Open {
+            mode: number(mode)?,
+            anchor: number(anchor)?,
+            flag_store: length(flag_store)?,
+            sample_store: length(sample_store)?,
+            samples: read_floats(samples, source)?,
+        },
+        ["feed", flag_store, sample_store, img, votes, flags, samples] => Call::Feed {
+            flag_store: length(flag_store)?,
+            sample_store: length(sample_store)?,
+            img: length(img)?,
+            votes: length(votes)?,
+            flags: read_numbers(flags, source)?,
+            samples: read_floats(samples, source)?,
+        },
+        ["read"] => Call::Read,
+        _ => {
+            return Err(format!(
+                "a call (columns, window, quality, edge, find, fill, probe, open, feed or read) \
+                 with its arguments instead of `{}`",
+                words[0]
+            ))
+        }
+    })
+}
+
+fn parse_answer(call: &Call, text: &str, source: Source<'_>) -> Result<Answer, String> {
+    let words: Vec<&str> = text.split(' ').collect();
+    if let ["refused", k] = words[..] {
+        return Ok(Answer::Refused(number(k)?));
+    }
+    Ok(match (call, &words[..]) {
+        (Call::Columns { .. }, [n]) => Answer::Count(number(n)?),
+        (Call::Window { .. }, [start, sum]) => Answer::Window {
+            start: number(start)?,
+            sum: number(sum)?,
+        },
+        (Call::Quality { .. }, [q]) => Answer::Quality(single(q)?),
+        (Call::Edge { .. }, [n]) => Answer::Column(number(n)?),
+        (Call::Find { .. }, [rate, slant, skip, quality]) => {
+            Answer::Found(report(rate, slant, skip, quality)?)
+        }
+        (Call::Fill { .. }, [values]) => Answer::Filled(read_floats(values, source)?),
+        (Call::Probe { .. }, ["yes"]) => Answer::Decided(true),
+        (Call::Probe { .. }, ["no"]) => Answer::Decided(false),
+        (Call::Open { .. }, ["opened"]) => Answer::Opened,
+        (Call::Feed { .. }, ["took", n]) => Answer::Took(number(n)?),
+        (Call::Read, [end, taken, evaluations, rest @ ..]) => Answer::Read {
+            end: parse_end(end, rest)?,
+            taken: number(taken)?,
+            evaluations: number(evaluations)?,
+        },
+        _ => {
+            return Err(format!(
+                "an answer to this call, or `refused K`, instead of `{text}`"
+            ))
+        }
+    })
+}
+
+fn report(rate: &str, slant: &str, skip: &str, quality: &str) -> Result<Report, String> {
+    Ok(Report {
+        rate: double(rate)?,
+        slant: if slant == "none" {
+            None
+        } else {
+            Some(double(slant)?)
+        },
+        skip: signed(skip)?,
+        quality: single(quality)?,
+    })
+}
+
+fn parse_end(end: &str, rest: &[&str]) -> Result<End, String> {
+    Ok(match (end, rest) {
+        ("reported", [start, start_quality, rate, slant, skip, quality]) => End::Reported {
+            start: number(start)?,
+            start_quality: single(start_quality)?,
+            report: report(rate, slant, skip, quality)?,
+        },
+        ("unfound", []) => End::Unfound,
+        ("cutshort", [start, start_quality]) => End::CutShort {
+            start: number(start)?,
+            start_quality: single(start_quality)?,
+        },
+        _ => {
+            return Err(format!(
+                "`reported`, `unfound` or `cutshort` with its values instead of `{end}`"
+            ))
+        }
+    })
+}
