@@ -9,23 +9,11 @@ pub mod machine;
 mod refusal;
 mod session;
 
+pub use recording::{End, Report};
 pub use refusal::Refusal;
-pub use session::{End, Reading, Session, Work};
+pub use session::{Reading, Session, Work};
 
 use refusal::check;
-
-/// The first P flags of a picture give this.
-#[derive(Clone, Copy, Debug, PartialEq)]
-pub struct Report {
-    /// The true sampling rate in Hz.
-    pub rate: f64,
-    /// The slant in degrees, where one was found.
-    pub slant: Option<f64>,
-    /// Samples from the start to the first line; may be negative.
-    pub skip: i64,
-    /// How clearly the sync pulses stand out, 0 to 1.
-    pub quality: f32,
-}
 
 /// The best window of a ring of counts.
 #[derive(Clone, Copy, Debug, PartialEq, Eq)]

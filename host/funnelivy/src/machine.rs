@@ -2,7 +2,7 @@
 
 use crate::{
     best_pulse_window, falling_edge, find_sync, has_sync, sizes, sync_pulse_columns, sync_quality,
-    sync_window, End, Refusal, Session, Work,
+    sync_window, Refusal, Session, Work,
 };
 use recording::{Answer, Call, Machine};
 
@@ -18,15 +18,6 @@ fn mode_number(mode: u64) -> u8 {
 
 fn count(n: u64) -> usize {
     usize::try_from(n).unwrap_or(usize::MAX)
-}
-
-fn report(r: crate::Report) -> recording::Report {
-    recording::Report {
-        rate: r.rate,
-        slant: r.slant,
-        skip: r.skip,
-        quality: r.quality,
-    }
 }
 
 fn or_refused(answer: Result<Answer, Refusal>) -> Answer {
@@ -54,25 +45,7 @@ fn open(
 fn read(session: &Session) -> Result<Answer, Refusal> {
     let reading = session.read()?;
     Ok(Answer::Read {
-        end: match reading.end {
-            End::Reported {
-                start,
-                start_quality,
-                report: r,
-            } => recording::End::Reported {
-                start,
-                start_quality,
-                report: report(r),
-            },
-            End::Unfound => recording::End::Unfound,
-            End::CutShort {
-                start,
-                start_quality,
-            } => recording::End::CutShort {
-                start,
-                start_quality,
-            },
-        },
+        end: reading.end,
         taken: reading.taken,
         evaluations: reading.evaluations,
     })
@@ -107,8 +80,7 @@ impl Machine for Port {
             } => {
                 let mut img = vec![0; count(img.or(image))];
                 let mut votes = vec![0; count(votes.or(cells))];
-                find_sync(flags, *rate, mode_number(*mode), &mut img, &mut votes)
-                    .map(|r| Answer::Found(report(r)))
+                find_sync(flags, *rate, mode_number(*mode), &mut img, &mut votes).map(Answer::Found)
             }
             Call::Fill {
                 centre,

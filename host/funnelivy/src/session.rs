@@ -2,7 +2,7 @@
 
 use crate::ffi::{self, RawSession};
 use crate::refusal::check;
-use crate::{Refusal, Report};
+use crate::{End, Refusal, Report};
 
 /// Bytes of the drawn image and cells of the vote counts.
 const IMAGE_BYTES: usize = 441_000;
@@ -29,21 +29,6 @@ impl Default for Work {
     fn default() -> Self {
         Self::new()
     }
-}
-
-/// How a session ended.
-#[derive(Clone, Copy, Debug, PartialEq)]
-pub enum End {
-    /// A picture was found and its flags are all there.
-    Reported {
-        start: u64,
-        start_quality: f32,
-        report: Report,
-    },
-    /// The store is full and no picture was found.
-    Unfound,
-    /// The store is full before the picture's last flag.
-    CutShort { start: u64, start_quality: f32 },
 }
 
 /// What read gives.

@@ -100,28 +100,32 @@ pub enum Call {
     Read,
 }
 
-/// A report: rate, slant in degrees where one was found, skip and quality.
+/// What the first P flags of a picture give.
 #[derive(Clone, Copy, Debug, PartialEq)]
 pub struct Report {
+    /// The true sampling rate in Hz.
     pub rate: f64,
+    /// The slant in degrees, where one was found.
     pub slant: Option<f64>,
+    /// Samples from the start to the first line; may be negative.
     pub skip: i64,
+    /// How clearly the sync pulses stand out, 0 to 1.
     pub quality: f32,
 }
 
-/// What read gives at a session's end.
+/// How a session ended.
 #[derive(Clone, Copy, Debug, PartialEq)]
 pub enum End {
+    /// A picture was found and its flags are all there.
     Reported {
         start: u64,
         start_quality: f32,
         report: Report,
     },
+    /// The store is full and no picture was found.
     Unfound,
-    CutShort {
-        start: u64,
-        start_quality: f32,
-    },
+    /// The store is full before the picture's last flag.
+    CutShort { start: u64, start_quality: f32 },
 }
 
 /// The answer to a call.
