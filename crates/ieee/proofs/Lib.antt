@@ -20,3 +20,4 @@ pub mod Sums
 pub mod Closing
 pub mod Combining
 pub mod Fusing
+pub mod Shifting

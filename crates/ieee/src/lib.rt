@@ -11,15 +11,20 @@ ghost use Rattle.ieee.specs.Casts.{clamp as Casts·clamp};
 ghost use Rattle.ieee.specs.Patterns.{Narrowed, Rounded};
 
 // Rust's `x as u64`: toward zero, brought to the range, and 0 for a NaN. Below 2^53, where nearly every
-// value lies, it is one shift of the digits.
+// value lies, it is a shift of the digits. Below 2^32 the front 32 digits are shifted to the left by the exponent:
+// LLVM writes the count of a right shift, 1075 - exponent, to a part of a register, so that each turn of a loop
+// waits for the turn before.
 pub fn to_u64(x: f64) -> u64
     ensures { λ r. ⌜ r ≡ Ieee.toUnsigned 64 x ⌝ }
 {
     if x >= 1.0 {
         let bits: u64 = f64::to_bits(x);
         let exponent: u64 = bits >> 52;
-        if exponent <= 1075 {
-            ((bits & 0xf_ffff_ffff_ffff) | 0x10_0000_0000_0000) >> (1075 - exponent)
+        let digits: u64 = (bits & 0xf_ffff_ffff_ffff) | 0x10_0000_0000_0000;
+        if exponent <= 1054 {
+            ((digits >> 21) << (exponent - 1023)) >> 31
+        } else if exponent <= 1075 {
+            digits >> (1075 - exponent)
         } else if x < 18446744073709551616.0 {
             std::num::truncating_f64_to_u64(x)
         } else {
