@@ -18,9 +18,10 @@ pub record Sizes : Type 0 where
 abbrev pub right : Sizes → Bool
 right a = eqb (windowProbes (specOf (a .mode))) (a .w) && eqb (lineWidth (specOf (a .mode))) (a .W) && eqb (pulseColumns (specOf (a .mode)) 700) (a .columns)
 
-abbrev pub allRight : List Sizes → Bool
-allRight [] = true
-allRight (a ∷ rest) = right a && allRight rest
+-- whether a test holds of each of a list
+abbrev pub allOf : {A : Type 0} → (A → Bool) → List A → Bool
+allOf test [] = true
+allOf test (a ∷ rest) = test a && allOf test rest
 
 -- PD 120, Robot 36, Scottie 1, Martin 1
 abbrev pub known : List Sizes
@@ -31,6 +32,6 @@ known =
     record { mode = 12; w = 9846; W = 367; columns = 8 } ∷
     []
 
-pub known-answers : T (allRight known)
+pub known-answers : T (allOf right known)
 unfolding specOf windowProbes lineWidth pulseColumns ofInt
 known-answers = tt
