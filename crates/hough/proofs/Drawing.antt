@@ -5,9 +5,16 @@ use Prim.Native.Nat.{ℕ, _≤_, _<_, _+_, _*_}
 use native.Mathlib.Nat.{not-suc-le-zero}
 use native.Mathlib.Omega.{arith}
 use lib.ListN.{length, getD, set, drop, length-set}
+use lib.Ieee.{Float, nan}
 use lib.Seq.{getD-set-same, getD-set-other, drop-set-lt}
 use borrow.Author.Count.{below-more}
-use Rattle.hough.specs.Steps.{RowDrawn, Shows, Drawn}
+use Rattle.hough.specs.Pass.{secondsAt}
+use Rattle.hough.specs.Steps.{columnPart, PartTable, secondsBy, RowDrawn, Shows, Drawn}
+
+-- the seconds by the table are those of the definition
+pub seconds-at : (line : Float) (w x y : ℕ) (parts : List Float) → PartTable w parts → x < 700 → secondsBy line (getD parts x nan) y ≡ secondsAt line w x y
+unfolding secondsBy secondsAt columnPart
+seconds-at line w x y parts t h = ap (λ (z : Float). secondsBy line z y) (t .part x h)
 
 pub row-none : (f : ℕ → ℕ) (y : ℕ) (m : List ℕ) → RowDrawn f y 0 m m
 row-none f y m = record { size = refl; row = λ x h. absurd (not-suc-le-zero h); above = λ k h. refl; behind = refl }

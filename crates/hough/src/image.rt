@@ -3,8 +3,8 @@ ghost use mathlib.Core.Path.{_≡_};
 ghost use Prim.Native.Nat.{_≤_, _<_, min};
 ghost use lib.ListN.{length, getD};
 ghost use Rattle.hough.specs.Memory.{cleared};
-ghost use Rattle.hough.specs.Pass.{secondsAt, probeOf, flagOf};
-ghost use Rattle.hough.specs.Steps.{RowDrawn, Drawn};
+ghost use Rattle.hough.specs.Pass.{probeOf, flagOf};
+ghost use Rattle.hough.specs.Steps.{PartTable, secondsBy, RowDrawn, Drawn};
 use super::least;
 
 pub fn clear(m: &mut [u8], n: usize)
@@ -18,12 +18,26 @@ pub fn clear(m: &mut [u8], n: usize)
     }
 }
 
-// The seconds from the first line's start to a pixel.
-fn seconds(line: f64, w: usize, x: usize, y: usize) -> f64
-    requires { ⌜ (w ≤ 65536) × (x ≤ 65536) × (y ≤ 65536) ⌝ }
-    ensures { λ r. ⌜ r ≡ secondsAt line w x y ⌝ }
+// x / W for each column x, worked out once and not in each row.
+fn column_parts(w: usize) -> [f64; 700]
+    requires { ⌜ w ≤ 65536 ⌝ }
+    ensures { λ r. ⌜ PartTable w r ⌝ }
 {
-    ((y as f64) + (x as f64) / (w as f64)) * line
+    let mut parts = [0.0; 700];
+    let mut x: usize = 0;
+    while x < 700 {
+        parts[x] = (x as f64) / (w as f64);
+        x += 1;
+    }
+    parts
+}
+
+// The seconds from the first line's start to a pixel, for its column's part of a line.
+fn seconds(line: f64, part: f64, y: usize) -> f64
+    requires { ⌜ y ≤ 65536 ⌝ }
+    ensures { λ r. ⌜ r ≡ secondsBy line part y ⌝ }
+{
+    ((y as f64) + part) * line
 }
 
 // The number of the flag that covers the time t.
@@ -40,14 +54,22 @@ fn flag(flags: &[u8], i: usize) -> u8
     if i < flags.len() { flags[i] } else { 0 }
 }
 
-fn draw_row(img: &mut [u8], flags: &[u8], rate: f64, line: f64, w: usize, y: usize)
-    requires { ⌜ (441000 ≤ length (now img)) × (w ≤ 65536) × (y < 630) ⌝ }
+fn draw_row(
+    img: &mut [u8],
+    flags: &[u8],
+    parts: &[f64; 700],
+    rate: f64,
+    line: f64,
+    w: usize,
+    y: usize,
+)
+    requires { ⌜ (441000 ≤ length (now img)) × PartTable w (now parts) × (y < 630) ⌝ }
     ensures { λ r. ⌜ RowDrawn (λ x. flagOf (now (flags .entry)) rate line w x y) y (min w 700) (now (img .entry)) (now (img .exit)) ⌝ }
 {
     let n = least(w, 700);
     let mut x: usize = 0;
     while x < n {
-        img[y * 700 + x] = flag(flags, probe_index(seconds(line, w, x, y), rate));
+        img[y * 700 + x] = flag(flags, probe_index(seconds(line, parts[x], y), rate));
         x += 1;
     }
 }
@@ -57,9 +79,10 @@ pub fn draw(img: &mut [u8], flags: &[u8], rate: f64, line: f64, w: usize, n: usi
     requires { ⌜ (441000 ≤ length (now img)) × (w ≤ 65536) × (n ≤ 630) ⌝ }
     ensures { λ r. ⌜ Drawn (λ x y. flagOf (now (flags .entry)) rate line w x y) (min w 700) n (now (img .entry)) (now (img .exit)) ⌝ }
 {
+    let parts = column_parts(w);
     let mut y: usize = 0;
     while y < n {
-        draw_row(img, flags, rate, line, w, y);
+        draw_row(img, flags, &parts, rate, line, w, y);
         y += 1;
     }
 }

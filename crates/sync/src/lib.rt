@@ -140,18 +140,17 @@ pub fn find_sync_in(
 
 // ---- the call
 
-// Whether no flag is above 1.
+// Whether no flag is above 1. It goes on to the end, so that LLVM tests many flags at a time.
 fn flags_allowed(flags: &[u8]) -> bool
     ensures { λ r. ⌜ r ≡ allAtMost 1 (now (flags .entry)) ⌝ }
 {
+    let mut allowed = true;
     let mut i: usize = 0;
     while i < flags.len() {
-        if flags[i] > 1 {
-            return false;
-        }
+        allowed = allowed & (flags[i] <= 1);
         i += 1;
     }
-    true
+    allowed
 }
 
 fn rate_allowed(rate: f64) -> bool

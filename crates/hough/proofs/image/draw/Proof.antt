@@ -10,16 +10,21 @@ use Rattle.hough.proofs.image.draw.Statement.{statement}
 use Rattle.hough.proofs.image.draw.Tie as tie
 
 abbrev Inv-loop : tie.InvT-loop
-Inv-loop img₀ flags rate line w n y₀ img y = (y ≤ n) × Drawn (λ x y. flagOf flags rate line w x y) (min w 700) y img₀ img
+Inv-loop img₀ flags rate line w n parts y₀ img y = (y ≤ n) × Drawn (λ x y. flagOf flags rate line w x y) (min w 700) y img₀ img
 
 abbrev μ-loop : tie.MeasureT-loop
-μ-loop img₀ flags rate line w n y₀ img y = n - y
+μ-loop img₀ flags rate line w n parts y₀ img y = n - y
+
+column-parts-requires : tie.Need-column-parts-requires Inv-loop μ-loop
+column-parts-requires c κs = omega arith
 
 loop-holds : tie.Need-loop-holds Inv-loop μ-loop
-loop-holds c = (omega arith, drawn-none _ _ _ (c .before .before .pre .0))
+loop-holds c = (omega arith, drawn-none _ _ _ (c .before .before .before .pre .0))
 
 draw-row-requires : tie.Need-draw-row-requires Inv-loop μ-loop
-draw-row-requires c κs = (c .before .before .loop .inv .1 .shows .room, c .before .before .before .before .before .pre .1, omega arith)
+draw-row-requires c κs =
+    let l = c .before .before .before in
+    (l .loop .inv .1 .shows .room, l .before .column-parts .ensures, omega arith)
 
 add-y : tie.Need-add-y Inv-loop μ-loop
 add-y c = omega arith
@@ -30,7 +35,7 @@ loop-less c = omega arith
 loop-again : tie.Need-loop-again Inv-loop μ-loop
 loop-again c =
     let d = c .before .before in
-    let l = d .before .before .before in
+    let l = d .before .before .before .before in
     (omega arith, drawn-more _ _ _ _ _ _ (omega arith) (l .loop .inv .1) (d .draw-row .ensures))
 
 same-length : tie.Need-same-length Inv-loop μ-loop
@@ -38,7 +43,7 @@ same-length c = c .before .loop .inv .1 .size
 
 returns : tie.Need-returns Inv-loop μ-loop
 returns c =
-    let e : c .before .loop .y ≡ c .before .before .before .before .args .n = omega arith in
+    let e : c .before .loop .y ≡ c .before .before .before .before .before .args .n = omega arith in
     rw (← e) (c .before .loop .inv .1)
 
 pub draw-spec : {M : Type 1} → statement M
@@ -47,6 +52,7 @@ draw-spec =
     (tie.spec
     Inv-loop
     μ-loop
+    column-parts-requires
     loop-holds
     draw-row-requires
     add-y

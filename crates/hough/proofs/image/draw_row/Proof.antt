@@ -6,21 +6,27 @@ use lib.ListN.{length, getD}
 use lib.Ieee.{Float}
 use Rattle.hough.specs.Pass.{flagOf, probeOf}
 use Rattle.hough.specs.Steps.{RowDrawn}
-use Rattle.hough.proofs.Drawing.{row-none, row-more}
+use Rattle.hough.proofs.Drawing.{row-none, row-more, seconds-at}
 use Rattle.hough.proofs.image.draw_row.Statement.{statement}
 use Rattle.hough.proofs.image.draw_row.Tie as tie
 
 abbrev Inv-loop : tie.InvT-loop
-Inv-loop img₀ flags rate line w y n x₀ img x = (x ≤ n) × RowDrawn (λ k. flagOf flags rate line w k y) y x img₀ img
+Inv-loop img₀ flags parts rate line w y n x₀ img x = (x ≤ n) × RowDrawn (λ k. flagOf flags rate line w k y) y x img₀ img
 
 abbrev μ-loop : tie.MeasureT-loop
-μ-loop img₀ flags rate line w y n x₀ img x = n - x
+μ-loop img₀ flags parts rate line w y n x₀ img x = n - x
 
 least-requires : tie.Need-least-requires Inv-loop μ-loop
 least-requires c κs = tt
 
 loop-holds : tie.Need-loop-holds Inv-loop μ-loop
 loop-holds c = (omega arith, row-none _ _ _)
+
+mul-seconds : tie.Need-mul-seconds Inv-loop μ-loop
+mul-seconds c = omega arith
+
+element-copy-out-seconds : tie.Need-element-copy-out-seconds Inv-loop μ-loop
+element-copy-out-seconds c = omega arith
 
 seconds-requires : tie.Need-seconds-requires Inv-loop μ-loop
 seconds-requires c κs = omega arith
@@ -50,12 +56,12 @@ loop-again : tie.Need-loop-again Inv-loop μ-loop
 loop-again c =
     let p = c .before in
     let s = p .before in
-    let l = s .before .before in
+    let l = s .before .before .before in
     let a = l .before .before .before .before in
     let fs = a .args .flags .now in (
       omega arith,
       row-more _ _ (l .loop .x) _ _ _ (omega arith) (omega arith) (omega arith) (l .loop .inv .1)
-          (c .flag .ensures ∙ ap (λ (i : ℕ). getD fs i 0) (p .probe-index .ensures ∙ ap (λ (t : Float). probeOf t (a .args .rate)) (s .seconds .ensures))),
+          (c .flag .ensures ∙ ap (λ (i : ℕ). getD fs i 0) (p .probe-index .ensures ∙ ap (λ (t : Float). probeOf t (a .args .rate)) (s .seconds .ensures ∙ seconds-at (a .args .line) (a .args .w) (l .loop .x) (a .args .y) (a .args .parts .now) (a .pre .1) (omega arith)))),
     )
 
 same-length : tie.Need-same-length Inv-loop μ-loop
@@ -74,6 +80,8 @@ draw-row-spec =
     μ-loop
     least-requires
     loop-holds
+    mul-seconds
+    element-copy-out-seconds
     seconds-requires
     probe-index-requires
     flag-requires
