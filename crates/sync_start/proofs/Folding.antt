@@ -1,35 +1,48 @@
 -- Laws of a flag that is looked up, and of the counts of a fold. Assumes nothing.
-use mathlib.Core.Path.{_≡_, sym, _∙_}
-use mathlib.Core.Bool.{Bool, true, false, cond}
+use mathlib.Core.Path.{_≡_, refl, sym, _∙_}
+use mathlib.Core.Bool.{Bool, true, false, cond, not}
 use mathlib.Core.List.{List}
 use Prim.Native.Nat.{ℕ, zero, suc, _+_, _≤_, _<_}
 use native.Mathlib.Numerals.{add-one}
 use native.Mathlib.Omega.{arith}
-use borrow.Author.Tests.{eq-eqb, ne-eqb}
+use borrow.Author.Tests.{eq-eqb}
+use mir.Val.{boolByte}
 use lib.Dec.{eqb}
 use lib.Ieee.{Float}
-use lib.ListN.{length, getD, replicate, List·getD-eq-default, length-replicate, getD-replicate}
+use lib.ListN.{length, getD, replicate, List·getD-eq-default}
 use lib.Seq.{ext-getD}
-use Rattle.sync_start.specs.Fold.{probeOf, hitBy, hitAt, hitsTo, linesAt, listTo, foldTo}
-use Rattle.sync_start.proofs.Lists.{length-list, getD-list}
+use Rattle.sync_start.specs.Fold.{probeOf, hitBy, hitAt, hitsTo, linesAt, foldTo, bitAt, placesOf, addedTo}
+use Rattle.sync_start.proofs.Lists.{length-list, getD-list, zero-list}
 
 -- ---- one flag
 
-module _ (samples : Float) (window : List ℕ) (lines : Float) (i : ℕ) (e : i ≡ probeOf samples lines) where
-  pub hit-set : (getD window i 0 ≡ 0 → ⊥) → 1 ≡ hitBy samples window lines
-  unfolding hitBy
-  hit-set h = rw (← e, ne-eqb _ _ h)
+-- a test that is made a number
+test-bit : (b : Bool) → boolByte (not b) ≡ cond b 0 1
+test-bit true = refl
+test-bit false = refl
 
-  pub hit-clear : getD window i 0 ≡ 0 → 0 ≡ hitBy samples window lines
-  unfolding hitBy
-  hit-clear h = rw (← e, eq-eqb _ _ h)
+pub bit-test : (window : List ℕ) (i : ℕ) → boolByte (not (eqb (getD window i 0) 0)) ≡ bitAt window i
+unfolding bitAt
+bit-test window i = test-bit (eqb (getD window i 0) 0)
 
-  pub hit-beyond : length window ≤ i → 0 ≡ hitBy samples window lines
-  hit-beyond h = hit-clear (List·getD-eq-default window 0 h)
+bit-clear : (window : List ℕ) (i : ℕ) → getD window i 0 ≡ 0 → 0 ≡ bitAt window i
+unfolding bitAt
+bit-clear window i h = rw (eq-eqb _ _ h)
+
+pub bit-beyond : (window : List ℕ) (i : ℕ) → length window ≤ i → 0 ≡ bitAt window i
+bit-beyond window i h = bit-clear window i (List·getD-eq-default window 0 h)
+
+pub bit-hit : (samples : Float) (window : List ℕ) (lines : Float) (i : ℕ) → i ≡ probeOf samples lines → bitAt window i ≡ hitBy samples window lines
+unfolding hitBy bitAt
+bit-hit samples window lines i e = rw e
 
 bit : (b : Bool) → cond b 0 1 ≤ 1
 bit true = omega arith
 bit false = omega arith
+
+pub bit-small : (window : List ℕ) (i : ℕ) → bitAt window i ≤ 1
+unfolding bitAt
+bit-small window i = bit (eqb (getD window i 0) 0)
 
 pub hit-small : (samples : Float) (window : List ℕ) (lines : Float) → hitBy samples window lines ≤ 1
 unfolding hitBy
@@ -55,14 +68,40 @@ module _ (samples : Float) (window : List ℕ) where
   unfolding foldTo
   fold-at n x h = getD-list (λ k. hitsTo samples window k n) 700 x 0 h
 
-  zeros : (n : ℕ) → replicate n 0 ≡ listTo (λ x. hitsTo samples window x 0) n
-  unfolding hitsTo
-  zeros n =
-      ext-getD 0 (replicate n 0) (listTo (λ x. hitsTo samples window x 0) n) (length-replicate n 0 ∙ sym (length-list (λ x. hitsTo samples window x 0) n))
-      (λ i h.
-      let l : i < n = rw (length-replicate {A = ℕ} n 0) at h in
-      getD-replicate n i 0 0 l ∙ sym (getD-list (λ x. hitsTo samples window x 0) n i 0 l))
-
   pub fold-none : replicate 700 0 ≡ foldTo samples window 0
-  unfolding foldTo
-  fold-none = zeros 700
+  unfolding foldTo hitsTo
+  fold-none = zero-list (λ x. hitsTo samples window x 0) (λ x. refl) 700
+
+-- ---- one line more
+
+module _ (window places counts : List ℕ) where
+  pub added-length : length (addedTo window places counts) ≡ 700
+  unfolding addedTo
+  added-length = length-list (λ x. getD counts x 0 + bitAt window (getD places x 0)) 700
+
+  pub added-at : (x : ℕ) → x < 700 → getD (addedTo window places counts) x 0 ≡ getD counts x 0 + bitAt window (getD places x 0)
+  unfolding addedTo
+  added-at x h = getD-list (λ k. getD counts k 0 + bitAt window (getD places k 0)) 700 x 0 h
+
+module _ (samples : Float) (window : List ℕ) (y : ℕ) where
+  pub places-length : length (placesOf samples y) ≡ 700
+  unfolding placesOf
+  places-length = length-list (λ x. probeOf samples (linesAt y x)) 700
+
+  place-at : (x : ℕ) → x < 700 → getD (placesOf samples y) x 0 ≡ probeOf samples (linesAt y x)
+  unfolding placesOf
+  place-at x h = getD-list (λ k. probeOf samples (linesAt y k)) 700 x 0 h
+
+  place-hit : (x : ℕ) → x < 700 → bitAt window (getD (placesOf samples y) x 0) ≡ hitAt samples window y x
+  unfolding hitAt
+  place-hit x h = bit-hit samples window (linesAt y x) (getD (placesOf samples y) x 0) (place-at x h)
+
+  pub fold-added : addedTo window (placesOf samples y) (foldTo samples window y) ≡ foldTo samples window (y + 1)
+  fold-added =
+      let old = foldTo samples window y in
+      let new = addedTo window (placesOf samples y) old in
+      let n : length new ≡ 700 = added-length window (placesOf samples y) old in
+      ext-getD 0 new (foldTo samples window (y + 1)) (n ∙ sym (fold-length samples window (y + 1)))
+      (λ i h.
+      let l : i < 700 = rw n at h in
+      added-at window (placesOf samples y) old i l ∙ rw (fold-at samples window y i l, place-hit i l) (sym (hits-next samples window i y)) ∙ sym (fold-at samples window (y + 1) i l))

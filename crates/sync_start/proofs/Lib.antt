@@ -1,6 +1,7 @@
 -- Laws that the proofs of this crate, and of those above it, cite.
 pub mod Lists
 pub mod Folding
+pub mod Silence
 pub mod Lines
 pub mod Runs
 pub mod Across

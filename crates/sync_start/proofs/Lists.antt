@@ -9,8 +9,8 @@ use native.Mathlib.Nat.{not-suc-le-zero, eq-or-lt-of-le}
 use lib.Dec.{T, le→leb}
 use lib.IntN.{pos}
 use lib.Ieee.{binary64, inFloat}
-use lib.ListN.{length, getD, take, drop, set, length-append, length-drop, length-set, List·getD-append}
-use lib.Seq.{getD-at, take-suc, take-suc-set, drop-set-lt, drop-cons, take-all}
+use lib.ListN.{length, getD, take, drop, set, replicate, length-replicate, getD-replicate, length-append, length-drop, length-set, List·getD-append}
+use lib.Seq.{ext-getD, getD-at, take-suc, take-suc-set, drop-set-lt, drop-cons, take-all}
 use Rattle.sync_start.specs.Fold.{listTo}
 
 -- a number that an `f64` holds
@@ -48,6 +48,14 @@ module _ {A : Type 0} (f : ℕ → A) where
   -- a list of n places, all of which are f's
   pub all-written : (l : List A) (n : ℕ) → length l ≡ n → take n l ≡ listTo f n → l ≡ listTo f n
   all-written l n h e = sym (take-all n l (omega arith)) ∙ e
+
+-- n zeros
+pub zero-list : (f : ℕ → ℕ) → ((x : ℕ) → f x ≡ 0) → (n : ℕ) → replicate n 0 ≡ listTo f n
+zero-list f z n =
+    ext-getD 0 (replicate n 0) (listTo f n) (length-replicate n 0 ∙ sym (length-list f n))
+    (λ i h.
+    let l : i < n = rw (length-replicate {A = ℕ} n 0) at h in
+    getD-replicate n i 0 0 l ∙ sym (getD-list f n i 0 l ∙ z i))
 
 -- l is `new` in its first x places, and `old` from there on
 pub record Mixed {A : Type 0} (new old : List A) (x : ℕ) (l : List A) : Type 0 where

@@ -41,6 +41,18 @@ unfoldable pub listTo : {A : Type 0} → (ℕ → A) → ℕ → List A
 listTo f zero = []
 listTo f (suc n) = listTo f n ++ (f n ∷ [])
 
+-- 1 where flag i of a window is set
+unfoldable pub bitAt : List ℕ → ℕ → ℕ
+bitAt window i = cond (eqb (getD window i 0) 0) 0 1
+
+-- the numbers of the flags that the 700 columns of line y read
+unfoldable pub placesOf : Float → ℕ → List ℕ
+placesOf samples y = listTo (λ x. probeOf samples (linesAt y x)) 700
+
+-- 700 counts, each with the flag at its place added
+unfoldable pub addedTo : List ℕ → List ℕ → List ℕ → List ℕ
+addedTo window places counts = listTo (λ x. getD counts x 0 + bitAt window (getD places x 0)) 700
+
 -- the counts of the 700 columns over n lines
 unfoldable pub foldTo : Float → List ℕ → ℕ → List ℕ
 foldTo samples window n = listTo (λ x. hitsTo samples window x n) 700

@@ -1,60 +1,148 @@
 // The fold of a window of flags: how many lines have a flag set, for each of 700 columns.
+use crate::parts;
+use crate::pulsed::smaller;
 ghost use mathlib.Core.Path.{_≡_};
-ghost use Prim.Native.Nat.{_+_, _≤_};
-ghost use Rattle.sync_start.specs.Fold.{columnPart, hitBy, listTo, foldTo};
+ghost use Prim.Native.Nat.{ℕ, _+_, _≤_, _<_, max};
+ghost use lib.ListN.{length, getD};
+ghost use Rattle.pulse.specs.Sums.{largest};
+ghost use Rattle.pulse.specs.Limits.{allAtMost};
+ghost use Rattle.sync_start.specs.Fold.{columnPart, probeOf, hitBy, listTo, foldTo, bitAt, placesOf, addedTo};
+
+// Flags of a block in the search for a set one.
+const SCAN_FLAGS: usize = 512;
 
 // x / 700 for each column x: the fold adds the same parts to each line.
 fn column_parts() -> [f64; 700]
     ensures { λ r. ⌜ r ≡ listTo columnPart 700 ⌝ }
 {
-    let mut parts = [0.0; 700];
-    let mut x: usize = 0;
-    while x < 700 {
-        parts[x] = (x as f64) / 700.0;
-        x += 1;
-    }
-    parts
+    parts::COLUMN_PARTS
 }
 
-// 1 where the flag so many lines into the window is set. Beyond the flags taken, where the window ends, it is not.
+// The number of the flag that lies so many lines into the window.
+fn probe_at(samples: f64, lines: f64) -> usize
+    ensures { λ r. ⌜ r ≡ probeOf samples lines ⌝ }
+{
+    ieee::to_u64(lines * samples / 4.0) as usize
+}
+
+// 1 where flag i is set, without a branch on the flag. Beyond the flags taken, where the window ends, it is not.
+fn bit_at(window: &[u8], i: usize) -> u32
+    ensures { λ r. ⌜ r ≡ bitAt (now (window .entry)) i ⌝ }
+{
+    if i < window.len() {
+        (window[i] != 0) as u32
+    } else {
+        0
+    }
+}
+
+// 1 where the flag so many lines into the window is set.
 pub fn hit(window: &[u8], samples: f64, lines: f64) -> u32
     ensures { λ r. ⌜ r ≡ hitBy samples (now (window .entry)) lines ⌝ }
 {
-    let i = ieee::to_u64(lines * samples / 4.0) as usize;
-    if i < window.len() {
-        if window[i] != 0 {
-            return 1;
-        }
-    }
-    0
+    bit_at(window, probe_at(samples, lines))
 }
 
-// Adds line y to the counts of the lines before it.
-fn fold_line(window: &[u8], parts: &[f64; 700], samples: f64, y: usize, counts: &mut [u32; 700])
-    requires { ⌜ (y ≤ 65536) × (now parts ≡ listTo columnPart 700) × (now counts ≡ foldTo samples (now window) y) ⌝ }
-    ensures { λ r. ⌜ now (counts .exit) ≡ foldTo samples (now (window .entry)) (y + 1) ⌝ }
+// The numbers of the flags that the columns of line y read.
+fn line_places(parts: &[f64; 700], samples: f64, y: usize, places: &mut [usize; 700])
+    requires { ⌜ (y ≤ 65536) × (now parts ≡ listTo columnPart 700) × (length (now places) ≡ 700) ⌝ }
+    ensures { λ r. ⌜ now (places .exit) ≡ placesOf samples y ⌝ }
 {
     let line = y as f64;
     let mut x: usize = 0;
     while x < 700 {
-        let lines = line + parts[x];
-        let more = hit(window, samples, lines);
+        places[x] = probe_at(samples, line + parts[x]);
+        x += 1;
+    }
+}
+
+// Adds the flag at each column's place to the column's count.
+fn add_bits(window: &[u8], places: &[usize; 700], counts: &mut [u32; 700])
+    requires { ⌜ (length (now counts) ≡ 700) × ((x : ℕ) → x < 700 → getD (now counts) x 0 ≤ 65536) ⌝ }
+    ensures { λ r. ⌜ now (counts .exit) ≡ addedTo (now (window .entry)) (now (places .entry)) (now (counts .entry)) ⌝ }
+{
+    let mut x: usize = 0;
+    while x < 700 {
+        let more = bit_at(window, places[x]);
         counts[x] += more;
         x += 1;
     }
 }
 
-// The counts of so many lines.
-pub fn fold(window: &[u8], samples: f64, lines: usize) -> [u32; 700]
+// Adds line y to the counts of the lines before it. Its places are found first, so that no place waits for a flag that is looked up.
+fn fold_line(
+    window: &[u8],
+    parts: &[f64; 700],
+    samples: f64,
+    y: usize,
+    places: &mut [usize; 700],
+    counts: &mut [u32; 700],
+)
+    requires { ⌜ (y ≤ 65536) × (now parts ≡ listTo columnPart 700) × (length (now places) ≡ 700) × (now counts ≡ foldTo samples (now window) y) ⌝ }
+    ensures { λ r. ⌜ (length (now (places .exit)) ≡ 700) × (now (counts .exit) ≡ foldTo samples (now (window .entry)) (y + 1)) ⌝ }
+{
+    line_places(parts, samples, y, places);
+    add_bits(window, places, counts);
+}
+
+// The counts of so many lines, one line after the other.
+fn fold_lines(window: &[u8], samples: f64, lines: usize) -> [u32; 700]
     requires { ⌜ lines ≤ 65536 ⌝ }
     ensures { λ r. ⌜ r ≡ foldTo samples (now (window .entry)) lines ⌝ }
 {
     let parts = column_parts();
+    let mut places = [0usize; 700];
     let mut counts = [0u32; 700];
     let mut y: usize = 0;
     while y < lines {
-        fold_line(window, &parts, samples, y, &mut counts);
+        fold_line(window, &parts, samples, y, &mut places, &mut counts);
         y += 1;
     }
     counts
+}
+
+fn larger(a: u8, b: u8) -> u8
+    ensures { λ r. ⌜ r ≡ max a b ⌝ }
+{
+    if a < b { b } else { a }
+}
+
+// The largest flag, and 0 of none.
+fn largest_flag(flags: &[u8]) -> u8
+    ensures { λ r. ⌜ r ≡ largest (λ k. getD (now (flags .entry)) k 0) (length (now (flags .entry))) ⌝ }
+{
+    let mut most: u8 = 0;
+    let mut i: usize = 0;
+    while i < flags.len() {
+        most = larger(most, flags[i]);
+        i += 1;
+    }
+    most
+}
+
+// Whether no flag is set. It goes by blocks: noise ends it in the first one, and the largest of a block is found many flags at a time.
+fn is_silent(window: &[u8]) -> bool
+    ensures { λ r. ⌜ r ≡ allAtMost 0 (now (window .entry)) ⌝ }
+{
+    let mut i: usize = 0;
+    while i < window.len() {
+        let end = i + smaller(SCAN_FLAGS, window.len() - i);
+        if largest_flag(&window[i..end]) != 0 {
+            return false;
+        }
+        i = end;
+    }
+    true
+}
+
+// The counts of so many lines. A window without a set flag has none to count.
+pub fn fold(window: &[u8], samples: f64, lines: usize) -> [u32; 700]
+    requires { ⌜ lines ≤ 65536 ⌝ }
+    ensures { λ r. ⌜ r ≡ foldTo samples (now (window .entry)) lines ⌝ }
+{
+    if is_silent(window) {
+        [0u32; 700]
+    } else {
+        fold_lines(window, samples, lines)
+    }
 }

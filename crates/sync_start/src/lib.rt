@@ -2,6 +2,7 @@
 // From slowrx.rs's sync_start.rs.
 pub mod fold;
 pub mod parity;
+mod parts;
 pub mod pulsed;
 
 use crate::pulsed::FirstLine;

@@ -105,7 +105,7 @@ fn larger(a: usize, b: usize) -> usize
     if a < b { b } else { a }
 }
 
-fn smaller(a: usize, b: usize) -> usize
+pub fn smaller(a: usize, b: usize) -> usize
     ensures { λ r. ⌜ r ≡ min a b ⌝ }
 {
     if a < b { a } else { b }

@@ -1,62 +1,13 @@
--- `sync_start::fold::column_parts` meets its contract. The loop's invariant: the columns before x have their parts. Assumes nothing.
-use mathlib.Core.Path.{_≡_, refl}
-use Prim.Native.Nat.{_≤_, _-_}
-use native.Mathlib.Omega.{arith}
-use lib.Ieee.{ofBits}
-use lib.ListN.{length, take, length-set}
+-- `sync_start::fold::column_parts` meets its contract: the literals of the source are the quotients. Assumes nothing.
+use mathlib.Core.Path.{refl}
+use lib.Ieee.{ofBits, ofInt, div}
 use Rattle.sync_start.specs.Fold.{columnPart, listTo}
-use Rattle.sync_start.proofs.Lists.{in-float, write-next, all-written}
 use Rattle.sync_start.proofs.fold.column_parts.Statement.{statement}
 use Rattle.sync_start.proofs.fold.column_parts.Tie as tie
 
-abbrev Inv-loop : tie.InvT-loop
-Inv-loop parts₀ x₀ parts x = (x ≤ 700) × (length parts ≡ 700) × (take x parts ≡ listTo columnPart x)
-
-abbrev μ-loop : tie.MeasureT-loop
-μ-loop parts₀ x₀ parts x = 700 - x
-
-loop-holds : tie.Need-loop-holds Inv-loop μ-loop
-unfolding listTo
-loop-holds c = (omega arith, refl, refl)
-
-int-to-float-parts : tie.Need-int-to-float-parts Inv-loop μ-loop
-int-to-float-parts c = in-float _ (omega arith)
-
-mul-parts : tie.Need-mul-parts Inv-loop μ-loop
-mul-parts c = omega arith
-
-array-write-parts : tie.Need-array-write-parts Inv-loop μ-loop
-array-write-parts c = omega arith
-
-add-x : tie.Need-add-x Inv-loop μ-loop
-add-x c = omega arith
-
-loop-less : tie.Need-loop-less Inv-loop μ-loop
-loop-less c = omega arith
-
-loop-again : tie.Need-loop-again Inv-loop μ-loop
-unfolding columnPart ofBits
-loop-again c =
-    let l = c .before .before .loop in
-    (omega arith, simp length-set (l .inv .1), write-next columnPart (l .parts) (l .x) _ (omega arith) (l .inv .2) refl)
-
-returns : tie.Need-returns Inv-loop μ-loop
-returns c =
-    let l = c .before .loop in
-    let e : l .x ≡ 700 = omega arith in
-    all-written columnPart (l .parts) 700 (l .inv .1) (rw e at (l .inv .2))
+returns : tie.Need-returns
+unfolding listTo columnPart div ofInt ofBits
+returns c = refl
 
 pub column-parts-spec : {M : Type 1} → statement M
-column-parts-spec =
-    tie.close
-    (tie.spec
-    Inv-loop
-    μ-loop
-    loop-holds
-    int-to-float-parts
-    mul-parts
-    array-write-parts
-    add-x
-    loop-less
-    loop-again
-    returns)
+column-parts-spec = tie.close (tie.spec returns)

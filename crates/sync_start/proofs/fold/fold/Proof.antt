@@ -1,52 +1,21 @@
--- `sync_start::fold::fold` meets its contract. The loop's invariant: the counts are those of the lines before y. Assumes nothing.
-use mathlib.Core.Path.{_≡_}
-use Prim.Native.Nat.{_≤_, _-_}
-use native.Mathlib.Omega.{arith}
-use Rattle.sync_start.specs.Fold.{columnPart, listTo, foldTo}
-use Rattle.sync_start.proofs.Folding.{fold-none}
+-- `sync_start::fold::fold` meets its contract. Assumes nothing.
+use mathlib.Core.Path.{sym, _∙_}
+use borrow.Author.Needs.{needs}
+use Rattle.sync_start.proofs.Silence.{fold-silent}
 use Rattle.sync_start.proofs.fold.fold.Statement.{statement}
 use Rattle.sync_start.proofs.fold.fold.Tie as tie
 
-abbrev Inv-loop : tie.InvT-loop
-Inv-loop window samples lines parts counts₀ y₀ counts y = (y ≤ lines) × (parts ≡ listTo columnPart 700) × (counts ≡ foldTo samples window y)
+is-silent-requires : tie.Need-is-silent-requires
+is-silent-requires c κs = search needs
 
-abbrev μ-loop : tie.MeasureT-loop
-μ-loop window samples lines parts counts₀ y₀ counts y = lines - y
+fold-lines-requires : tie.Need-fold-lines-requires
+fold-lines-requires c κs = search needs
 
-column-parts-requires : tie.Need-column-parts-requires Inv-loop μ-loop
-column-parts-requires c κs = tt
+returns : tie.Need-returns
+returns c = fold-silent _ _ (sym (c .before .is-silent .ensures) ∙ c .if1 .taken) _
 
-loop-holds : tie.Need-loop-holds Inv-loop μ-loop
-loop-holds c = (omega arith, c .column-parts .ensures, fold-none _ _)
-
-fold-line-requires : tie.Need-fold-line-requires Inv-loop μ-loop
-fold-line-requires c κs = let l = c .before .before .before .loop in (omega arith, l .inv .1, l .inv .2)
-
-add-y : tie.Need-add-y Inv-loop μ-loop
-add-y c = omega arith
-
-loop-less : tie.Need-loop-less Inv-loop μ-loop
-loop-less c = omega arith
-
-loop-again : tie.Need-loop-again Inv-loop μ-loop
-loop-again c = let l = c .before .before .before .before .loop in (omega arith, l .inv .1, c .fold-line .ensures)
-
-returns : tie.Need-returns Inv-loop μ-loop
-returns c =
-    let l = c .before .loop in
-    let e : l .y ≡ c .before .before .before .before .args .lines = omega arith in
-    rw (← e) (l .inv .2)
+returns-2 : tie.Need-returns-2
+returns-2 c = search needs
 
 pub fold-spec : {M : Type 1} → statement M
-fold-spec =
-    tie.close
-    (tie.spec
-    Inv-loop
-    μ-loop
-    column-parts-requires
-    loop-holds
-    fold-line-requires
-    add-y
-    loop-less
-    loop-again
-    returns)
+fold-spec = tie.close (tie.spec is-silent-requires fold-lines-requires returns returns-2)
