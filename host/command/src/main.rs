@@ -29,21 +29,30 @@ struct Arguments {
 #[derive(Subcommand)]
 enum Command {
     /// Make each call of recordings again and print the answers that differ
+    ///
+    /// For each answer that differs: file, line, the answer recorded and the
+    /// one got. The last line is `N passed, M failed`; the status is 0 if M is 0.
     Replay {
-        /// Recordings
+        /// Recordings: text whose first line is `funnelivy recording 1`
         #[arg(required = true)]
         files: Vec<PathBuf>,
     },
     /// Write a recording with this machine's answers to standard output
+    ///
+    /// A line of a recording is a call and its answer, as `columns 0 700 = 28`
+    /// or `read = refused 11`; host/recordings has examples.
     Record {
-        /// Calls, with or without answers
+        /// A recording, or its calls alone
         file: PathBuf,
     },
     /// A line for each picture of a mono WAV file at 11,025 Hz
+    ///
+    /// Where it starts, the true sampling rate, the slant (90° is upright), the
+    /// samples to skip from the start to the first line, and the qualities.
     Ledger {
+        /// A mono WAV file at 11,025 Hz
         file: PathBuf,
-        /// The mode's name, as "Robot 36", or its number
-        #[arg(long, value_parser = mode)]
+        #[arg(long, value_parser = mode, help = MODE_HELP)]
         mode: u8,
         /// The number of the file's first sample
         #[arg(long, default_value_t = 0)]
@@ -53,17 +62,22 @@ enum Command {
         block: u32,
     },
     /// Primary and standby side by side: whether their ledgers agree
+    ///
+    /// The primary counts samples from 1,000,000 and feeds blocks of 64 flags.
+    /// The standby begins where the session open at --at began, counts from 0
+    /// and feeds blocks of 1,021. The status is 0 if the ledgers agree.
     Takeover {
+        /// A mono WAV file at 11,025 Hz
         file: PathBuf,
-        /// The mode's name, as "Robot 36", or its number
-        #[arg(long, value_parser = mode)]
+        #[arg(long, value_parser = mode, help = MODE_HELP)]
         mode: u8,
-        /// The sample at which the standby takes over
+        /// The sample of the file at which the standby takes over
         #[arg(long)]
         at: u64,
     },
     /// Write a synthesised transmission: two pictures, with slant and noise
     Synthesise {
+        /// The WAV file to write
         file: PathBuf,
         /// pd120, robot36, scottie1 or martin1
         #[arg(long, value_parser = mode, default_value = "robot36")]
@@ -76,6 +90,11 @@ enum Command {
         noise: f32,
     },
 }
+
+const MODE_HELP: &str = "The mode's name, as \"Robot 36\", or its number: \
+    0 pd120, 1 pd180, 2 pd240, 3 robot24, 4 robot36, 5 robot72, 6 robot24bw, 7 robot12bw, \
+    8 robot8bw, 9 scottie1, 10 scottie2, 11 scottiedx, 12 martin1, 13 martin2, 14 wraase120, \
+    15 wraase180";
 
 fn mode(name: &str) -> Result<u8, String> {
     mode_by_name(name).ok_or_else(|| {

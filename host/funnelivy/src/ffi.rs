@@ -1,7 +1,8 @@
-//! The C interface of the static library, as include/funnelivy.h has it.
+//! The C interface of the static library, as include/funnelivy.h has it, for
+//! hosts that keep memory and records themselves.
 //!
-//! Nothing checks these declarations against the Rattle source; the tests of
-//! this package do, by making every call.
+//! host/c/run compares these declarations with the header and with the Rattle
+//! source; the tests of this package make every call.
 
 #[repr(C)]
 #[derive(Clone, Copy, Debug, PartialEq)]
@@ -23,6 +24,7 @@ pub struct RawSession {
 }
 
 #[repr(C)]
+#[derive(Clone, Copy, Debug, PartialEq)]
 pub struct RawSizes {
     pub refusal: u32,
     pub window: u64,
@@ -30,12 +32,14 @@ pub struct RawSizes {
 }
 
 #[repr(C)]
+#[derive(Clone, Copy, Debug, PartialEq)]
 pub struct RawColumns {
     pub refusal: u32,
     pub columns: u64,
 }
 
 #[repr(C)]
+#[derive(Clone, Copy, Debug, PartialEq)]
 pub struct RawWindow {
     pub refusal: u32,
     pub start: u64,
@@ -43,12 +47,14 @@ pub struct RawWindow {
 }
 
 #[repr(C)]
+#[derive(Clone, Copy, Debug, PartialEq)]
 pub struct RawQuality {
     pub refusal: u32,
     pub quality: f32,
 }
 
 #[repr(C)]
+#[derive(Clone, Copy, Debug, PartialEq)]
 pub struct RawReport {
     pub refusal: u32,
     pub has_slant: u32,
@@ -59,18 +65,21 @@ pub struct RawReport {
 }
 
 #[repr(C)]
+#[derive(Clone, Copy, Debug, PartialEq)]
 pub struct RawDecision {
     pub refusal: u32,
     pub has_sync: u32,
 }
 
 #[repr(C)]
+#[derive(Clone, Copy, Debug, PartialEq)]
 pub struct RawOpened {
     pub refusal: u32,
     pub session: RawSession,
 }
 
 #[repr(C)]
+#[derive(Clone, Copy, Debug, PartialEq)]
 pub struct RawFed {
     pub refusal: u32,
     pub taken: u64,
@@ -78,6 +87,7 @@ pub struct RawFed {
 }
 
 #[repr(C)]
+#[derive(Clone, Copy, Debug, PartialEq)]
 pub struct RawReading {
     pub refusal: u32,
     pub end: u32,
@@ -92,6 +102,8 @@ pub struct RawReading {
     pub has_slant: u32,
 }
 
+// Each pointer must be that of a slice of the length beside it, or null where
+// that length is 0; what is written must not overlap any other argument.
 extern "C" {
     pub fn funnelivy_sizes(mode: u8) -> RawSizes;
     pub fn funnelivy_columns(mode: u8, n: u64) -> RawColumns;

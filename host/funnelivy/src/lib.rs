@@ -4,7 +4,7 @@
 //! are the single calls. A call that does not meet its conditions answers a
 //! [`Refusal`] and changes nothing.
 
-mod ffi;
+pub mod ffi;
 pub mod machine;
 mod refusal;
 mod session;

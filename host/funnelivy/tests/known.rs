@@ -1,18 +1,34 @@
-//! The known answers, and a refusal of each cause, on the port.
+//! The recordings in host/recordings (known answers, a refusal of each cause,
+//! and what the Rust answered), on the port.
 
 use funnelivy::machine::Port;
 use recording::{parse, replay, Source};
-use std::path::Path;
+use std::path::{Path, PathBuf};
+
+fn recordings() -> (PathBuf, Vec<PathBuf>) {
+    let folder = Path::new(env!("CARGO_MANIFEST_DIR")).join("../recordings");
+    let mut files: Vec<PathBuf> = std::fs::read_dir(&folder)
+        .unwrap()
+        .map(|entry| entry.unwrap().path())
+        .filter(|file| file.extension().is_some_and(|e| e == "txt"))
+        .collect();
+    files.sort();
+    (folder, files)
+}
 
 #[test]
-fn known_answers_replay_without_a_difference() {
-    let folder = Path::new(env!("CARGO_MANIFEST_DIR")).join("../recordings");
-    let text = std::fs::read_to_string(folder.join("known.txt")).unwrap();
-    let recording = parse(&text, Source { folder: &folder }, true).unwrap();
-    let outcome = replay("known.txt", &recording, &mut Port::default());
-    assert_eq!(outcome.differences, Vec::<String>::new());
-    assert_eq!((outcome.failed, outcome.left_out), (0, 0));
-    assert_eq!(outcome.passed, recording.entries.len());
+fn recordings_replay_without_a_difference() {
+    let (folder, files) = recordings();
+    assert!(files.iter().any(|file| file.ends_with("known.txt")));
+    for file in files {
+        let name = file.file_name().unwrap().to_string_lossy();
+        let text = std::fs::read_to_string(&file).unwrap();
+        let recording = parse(&text, Source { folder: &folder }, true).unwrap();
+        let outcome = replay(&name, &recording, &mut Port::default());
+        assert_eq!(outcome.differences, Vec::<String>::new());
+        assert_eq!((outcome.failed, outcome.left_out), (0, 0), "{name}");
+        assert_eq!(outcome.passed, recording.entries.len(), "{name}");
+    }
 }
 
 #[test]

@@ -1,0 +1,61 @@
+# Writes one check for each field of the #[repr(C)] structs in the files given
+# (the Rattle source and the Rust declarations of it): offset, size and kind as
+# the rules of repr(C) give them. test.c includes what is written.
+
+function snake(name) {
+    sub(/^(Funnelivy|Raw)/, "", name)
+    if (raw && name !~ /^(Session|Opened|Fed|Reading)$/) name = name "Answer"
+    gsub(/[A-Z]/, "_&", name)
+    return "funnelivy" tolower(name)
+}
+
+function up(n, to) { return int((n + to - 1) / to) * to }
+
+FNR == 1 { raw = (FILENAME ~ /\.rs$/) }
+
+/^#\[repr\(C\)\]/ { exported = 1 }
+
+exported && /^pub struct / {
+    struct = snake($3)
+    end = 0
+    widest = 1
+    inside = 1
+    structs[FILENAME] += 1
+    exported = 0
+}
+
+inside && /^ +pub [a-z_]+: / {
+    field = $2
+    type = $3
+    sub(/:/, "", field)
+    sub(/,/, "", type)
+    if (type ~ /Session$/) {
+        size = size_of["funnelivy_session"]
+        align = 8
+        kind = "SESSION"
+    } else {
+        size = substr(type, 2) / 8
+        align = size
+        kind = (type ~ /^f/) ? "FLOATING" : "WHOLE"
+    }
+    end = up(end, align)
+    printf "%s(%s, %s, %d, %d)\n", kind, struct, field, end, size
+    end += size
+    if (align > widest) widest = align
+}
+
+inside && /^}/ {
+    size_of[struct] = up(end, widest)
+    printf "SIZE(%s, %d)\n", struct, size_of[struct]
+    inside = 0
+}
+
+# A source that is laid out in another way must not pass unread.
+END {
+    for (i = 1; i < ARGC; i++) {
+        if (structs[ARGV[i]] != 10) {
+            printf "layout.awk: %s has %d records, not 10\n", ARGV[i], structs[ARGV[i]] > "/dev/stderr"
+            exit 1
+        }
+    }
+}
