@@ -12,7 +12,7 @@ use std::f64::consts::PI;
 /// Samples in one second.
 const RATE: f64 = 11_025.0;
 /// Pairs of a spectrum that are read.
-const PAIRS: usize = 129;
+pub const PAIRS: usize = 129;
 /// Samples of a window.
 const WINDOW: usize = 16;
 
@@ -210,7 +210,7 @@ fn windows(records: &mut Records, rng: &mut Rng) -> Result<(), String> {
 }
 
 /// Shifts at which a bin changes, with both neighbours, and beyond both ends.
-fn shifts(rng: &mut Rng) -> Vec<f64> {
+pub fn shifts(rng: &mut Rng) -> Vec<f64> {
     let mut list = vec![0.0, -0.0, 5_000.0, -5_000.0, 100.0, -100.0, 43.0, -43.0];
     // one bin at either end, and none
     list.extend([3_990.0, -2_230.0, 4_100.0, -2_290.0]);
@@ -312,7 +312,8 @@ fn decisions(records: &mut Records, rng: &mut Rng) -> Result<(), String> {
 }
 
 /// Both sides of the decision, in the Rust's order of steps.
-fn powers(spectrum: &[Complex<f32>], sync: usize, lo: usize, hi: usize) -> (f64, f64) {
+#[must_use]
+pub fn powers(spectrum: &[Complex<f32>], sync: usize, lo: usize, hi: usize) -> (f64, f64) {
     let power = |k: usize| {
         let (re, im) = (f64::from(spectrum[k].re), f64::from(spectrum[k].im));
         re * re + im * im
@@ -332,7 +333,13 @@ fn powers(spectrum: &[Complex<f32>], sync: usize, lo: usize, hi: usize) -> (f64,
 }
 
 /// A spectrum of one of four shapes around the bins given.
-fn spectrum(rng: &mut Rng, shape: u64, sync: usize, low: usize, high: usize) -> Vec<Complex<f32>> {
+pub fn spectrum(
+    rng: &mut Rng,
+    shape: u64,
+    sync: usize,
+    low: usize,
+    high: usize,
+) -> Vec<Complex<f32>> {
     let mut pairs = vec![Complex::default(); PAIRS];
     let (lo, hi) = (low.max(1), high.min(127));
     let bin = sync.clamp(1, 127);

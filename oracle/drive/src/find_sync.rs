@@ -16,19 +16,23 @@ pub const LONGEST: usize = 1_000_000;
 /// Stands for no slant.
 pub const NO_SLANT: u64 = u64::MAX;
 
-const RATES: [f64; 8] = [
+/// Starting rates: both ends, usual ones and odd ones.
+pub const RATES: [f64; 8] = [
     8_000.0, 11_025.0, 44_100.0, 48_000.0, 11_017.3, 9_600.0, 22_050.5, 8_191.999,
 ];
 
 /// The passes of one `find_sync`, made again one by one.
 #[derive(Default)]
-struct Passes {
-    made: usize,
-    angles: Vec<f64>,
+pub struct Passes {
+    /// How many ran.
+    pub made: usize,
+    /// The angles of those that found one.
+    pub angles: Vec<f64>,
 }
 
-/// Its loop, with `hough_detect_slant` itself, to know how many passes ran.
-fn passes(flags: &[bool], rate: f64, spec: ModeSpec, scratch: &mut Scratch) -> (Passes, f64) {
+/// Its loop, with `hough_detect_slant` itself, to know how many passes ran, and the last
+/// rate.
+pub fn passes(flags: &[bool], rate: f64, spec: ModeSpec, scratch: &mut Scratch) -> (Passes, f64) {
     let flags = &flags[..flags.len().min(sync::image_probes(spec, rate))];
     let mut passes = Passes::default();
     let mut rate = rate;
@@ -144,7 +148,7 @@ pub fn vectors() -> Result<Records, String> {
             "drawn by y x L + x / W x L alone: not at all",
             "folded by y x L + x / 700 x L alone",
             "folded by (y + x / 700) x L alone: not at all",
-            "new rate whose last bit hangs on the order of steps",
+            "new rate whose last bit depends on the order of steps",
         ],
     );
     for mode in 0..MODES {
@@ -356,7 +360,7 @@ fn orders(driver: &mut Driver, rng: &mut Rng, mode: usize) {
         };
         if angle(rate) == Some(first) {
             driver.put(&flags, rate, mode);
-            let name = "new rate whose last bit hangs on the order of steps";
+            let name = "new rate whose last bit depends on the order of steps";
             driver.tally.note(name, true);
             kept += 1;
         }

@@ -44,7 +44,7 @@ pub fn nans() -> [f64; 4] {
     .map(f64::from_bits)
 }
 
-/// Magnitudes at which some operation changes its mind.
+/// Magnitudes at which some operation changes over.
 fn edges() -> Vec<f64> {
     let mut list = vec![0.0, f64::INFINITY, f64::MAX, f64::MIN_POSITIVE];
     list.extend([1, 2, 3, FRACTION].map(f64::from_bits));

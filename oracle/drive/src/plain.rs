@@ -12,6 +12,8 @@ use slowrx::sync::access::{self as sync, Found, Scratch};
 pub const IMG: usize = 441_000;
 /// Numbers of the second.
 pub const VOTES: usize = 144_000;
+/// Longest flag store and flag list.
+pub const MOST_FLAGS: usize = 1 << 24;
 
 /// What the Rust makes of a list of flags and samples.
 pub struct Heard {
@@ -107,6 +109,9 @@ pub struct Session<'a> {
     pub evaluations: usize,
     /// Where it stands.
     pub phase: Phase,
+    /// w and f + P, which each step asks for.
+    window: usize,
+    full: Option<usize>,
 }
 
 impl<'a> Session<'a> {
@@ -121,13 +126,15 @@ impl<'a> Session<'a> {
             taken: 0,
             evaluations: 0,
             phase: Phase::Searching,
+            window: taken_at(heard.mode, 0),
+            full: heard.full(),
         }
     }
 
     /// One flag with its four samples.
     pub fn step(&mut self) {
         self.taken += 1;
-        let w = taken_at(self.heard.mode, 0);
+        let w = self.window;
         let due = self.taken >= w && (self.taken - w).is_multiple_of(64);
         if self.phase == Phase::Searching && due {
             self.evaluations += 1;
@@ -136,7 +143,7 @@ impl<'a> Session<'a> {
                 self.phase = Phase::Collecting;
             }
         }
-        if self.phase == Phase::Collecting && self.heard.full() == Some(self.taken) {
+        if self.phase == Phase::Collecting && self.full == Some(self.taken) {
             self.phase = Phase::Reported;
         }
         if self.taken == self.capacity {
@@ -216,7 +223,7 @@ impl Feed {
         if self.store != session.capacity || short || self.img < IMG || self.votes < VOTES {
             return 5;
         }
-        if self.samples.len() != 4 * self.flags.len() {
+        if self.flags.len() > MOST_FLAGS || self.samples.len() != 4 * self.flags.len() {
             return 6;
         }
         if self.odd.iter().any(|&(_, value)| value > 1) {

@@ -8,9 +8,9 @@ use slowrx::modespec::access::spec;
 use slowrx::sync::access as sync;
 
 /// Columns of a fold.
-const COLUMNS: usize = 700;
+pub const COLUMNS: usize = 700;
 /// Longest list.
-const LONGEST: usize = 65_536;
+pub const LONGEST: usize = 65_536;
 
 /// All vectors of windows, qualities and edges.
 ///
@@ -40,7 +40,7 @@ fn payload(counts: &[u32]) -> (u64, Vec<u8>) {
 }
 
 /// Counts of a random shape.
-fn list(rng: &mut Rng, n: usize) -> Vec<u32> {
+pub fn list(rng: &mut Rng, n: usize) -> Vec<u32> {
     let top = rng.pick(&[1, 2, 3, 10, 256, 1_000_000, u64::from(u32::MAX) + 1]);
     match rng.below(5) {
         // all equal
@@ -74,7 +74,7 @@ fn list(rng: &mut Rng, n: usize) -> Vec<u32> {
 }
 
 /// A list of 65,536 counts that stays short when it is written as pairs.
-fn long_list(rng: &mut Rng) -> Vec<u32> {
+pub fn long_list(rng: &mut Rng) -> Vec<u32> {
     let mut counts = Vec::new();
     let top = rng.pick(&[2, 256, 1_000_000, u64::from(u32::MAX) + 1]);
     while counts.len() < LONGEST {

@@ -243,7 +243,8 @@ fn run(driver: &mut Driver, rng: &mut Rng, heard: &Heard, anchor: u64, capacity:
 }
 
 /// The next `m` flags with their samples, and the right lengths.
-fn piece(session: &Session, m: usize) -> Feed {
+#[must_use]
+pub fn piece(session: &Session, m: usize) -> Feed {
     let sound = &session.heard.sound;
     let from = session.taken.min(sound.flags.len() - m);
     Feed {
@@ -276,7 +277,8 @@ fn refused_feed(driver: &mut Driver, rng: &mut Rng, session: &mut Session) {
     assert_eq!(before, session.taken);
 }
 
-fn spoil(rng: &mut Rng, session: &Session, feed: &mut Feed) {
+/// Gives a feed one cause to be refused.
+pub fn spoil(rng: &mut Rng, session: &Session, feed: &mut Feed) {
     let m = feed.flags.len();
     match rng.below(9) {
         0 => feed.store = session.capacity - 1,

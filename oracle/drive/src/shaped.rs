@@ -1,4 +1,4 @@
-//! Evaluations whose answer hangs on one flag or one sample, put together
+//! Evaluations whose answer depends on one flag or one sample, put together
 //! column by column. Random pictures do not reach them.
 
 use crate::dsp::tone;
@@ -24,8 +24,8 @@ pub const CLASSES: [&str; 16] = [
     "narrow: two runs, each too short",
     "wide: a line with half its columns or a column more",
     "wide: a line with a column less",
-    "parity hangs on 49 samples, not 50",
-    "parity hangs on the segment's start being rounded",
+    "parity depends on 49 samples, not 50",
+    "parity depends on the segment's start being rounded",
     "parity by the last segment alone, wholly known",
     "parity: the last segment lacks one sample",
     "three fifths: 0.6 and a start",
@@ -108,7 +108,7 @@ impl Grid {
     }
 }
 
-/// Evaluations whose first line hangs on `first` being min(64j, 65), not 64j:
+/// Evaluations whose first line depends on `first` being min(64j, 65), not 64j:
 /// the end of a line's search is cut to another flag by the larger number.
 fn shifted_lines(driver: &mut Driver, mode: usize) {
     let width = sync_pulse_columns(spec(mode), COLUMNS);
@@ -186,6 +186,32 @@ fn runs_at_ends(driver: &mut Driver, rng: &mut Rng, mode: usize) {
             driver.tally.note(class, made.start.is_some());
         }
     }
+}
+
+/// A list whose start depends on one flag or two at evaluation 2: line 0 or 1
+/// has a narrow pulse's run at an end of the search, or one flag beyond it, or
+/// about half of a wide pulse; all later lines have their pulse.
+pub fn hanging(rng: &mut Rng, mode: usize) -> Sound {
+    let (j, y) = (2, rng.index(2));
+    let grid = Grid::new(mode, j, 20 + rng.index(COLUMNS - 120));
+    let mut sound = grid.pulses_from(y + 1);
+    let (lo, hi) = grid.ends(y, kept(j));
+    let run = grid.run();
+    let (from, length) = if grid.width >= sync_start::WIDE {
+        let first = grid.flag(y, grid.column);
+        let half = (grid.flag(y, grid.column + grid.width) - first) / 2;
+        (first, (half + rng.index(7)).saturating_sub(3))
+    } else {
+        match rng.below(6) {
+            0 => (lo, run),
+            1 => (lo - 1, run),
+            2 => (hi - run, run),
+            3 | 4 => (hi - run + 1, run),
+            _ => ((lo + hi) / 2 - run / 2, run - 1),
+        }
+    };
+    set(&mut sound.flags, from, from + length);
+    sound
 }
 
 /// A wide pulse's line with about half its columns.
@@ -301,9 +327,9 @@ fn noisy_segments(driver: &mut Driver, rng: &mut Rng, mode: usize) {
         by_place += usize::from(place);
         let made = driver.evaluation(mode, &sound, grid.j, 2);
         let found = made.start.is_some();
-        let name = "parity hangs on 49 samples, not 50";
+        let name = "parity depends on 49 samples, not 50";
         driver.tally.note(name, found && length);
-        let name = "parity hangs on the segment's start being rounded";
+        let name = "parity depends on the segment's start being rounded";
         driver.tally.note(name, found && place);
     }
 }
