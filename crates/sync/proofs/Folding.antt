@@ -1,5 +1,6 @@
 -- Laws of the final fold: a line is added to the counts, and after n lines each count is its column's sum. Assumes nothing.
 use mathlib.Core.Path.{_≡_, refl, ap, sym, _∙_}
+use mathlib.Core.Bool.{Bool, true, false, not}
 use mathlib.Core.List.{List, [], _∷_, _++_}
 use Prim.Native.Nat.{ℕ, zero, suc, _+_, _*_, _^_, _≤_, _<_}
 use native.Mathlib.Nat.{zero-add}
@@ -8,11 +9,12 @@ use native.Mathlib.Omega.{arith}
 use borrow.Author.Count.{below-more}
 use lib.ListN.{length, getD, set, length-set, length-append, List·getD-append}
 use lib.Seq.{getD-set-same, getD-set-other, getD-at, ext-getD}
+use lib.Dec.{T, ltb, ltb→lt, nltb→le}
 use lib.Ieee.{Float, nan, binary64, add}
 use Rattle.hough.specs.Pass.{probeOf}
 use Rattle.pulse.specs.Sums.{sumFrom}
 use Rattle.pulse.proofs.Sums.{sum-none, sum-more, sum-below}
-use Rattle.sync.specs.Fold.{lineSeconds, columnSeconds, flagAt, foldFlag, columnCount, listed, foldOf, ColumnTable, Added}
+use Rattle.sync.specs.Fold.{lineSeconds, columnSeconds, flagAt, foldFlag, columnCount, listed, foldOf, ColumnTable, Added, AddedIn}
 
 differs : {k n : ℕ} → k < n → k ≡ n → ⊥
 differs l e = omega arith
@@ -22,15 +24,36 @@ differs l e = omega arith
 pub added-none : (f : ℕ → ℕ) (m : List ℕ) → Added f 0 m m
 added-none f m = record { size = refl; sum = λ x l. absurd (omega arith); rest = λ x l. refl }
 
-pub added-more : (f : ℕ → ℕ) (n : ℕ) (old new : List ℕ) (v : ℕ) → n < length new → Added f n old new → v ≡ getD new n 0 + f n → Added f (n + 1) old (set new n v)
-added-more f n old new v l a e =
+-- ---- some columns of a line
+
+pub part-none : (f : ℕ → ℕ) (a : ℕ) (m : List ℕ) → AddedIn f a a m m
+part-none f a m = record { size = refl; sum = λ x l h. absurd (omega arith); rest = λ x n. refl }
+
+pub part-zero : (f : ℕ → ℕ) (a b : ℕ) (m : List ℕ) → ((x : ℕ) → a ≤ x → x < b → f x ≡ 0) → AddedIn f a b m m
+part-zero f a b m z = record { size = refl; sum = λ x l h. omega (arith, z x l h); rest = λ x n. refl }
+
+pub part-more : (f : ℕ → ℕ) (a n : ℕ) (old new : List ℕ) (v : ℕ) → a ≤ n → n < length new → AddedIn f a n old new → v ≡ getD new n 0 + f n → AddedIn f a (n + 1) old (set new n v)
+part-more f a n old new v o l p e =
     record {
-      size = simp length-set (a .size);
-      sum =
-          below-more (λ (x : ℕ). getD (set new n v) x 0 ≡ getD old x 0 + f x) n (λ x b. getD-set-other new n x v 0 (differs b) ∙ a .sum x b)
-          (getD-set-same new n v 0 l ∙ e ∙ ap (λ (z : ℕ). z + f n) (a .rest n (λ b. omega arith)));
-      rest = λ x b. getD-set-other new n x v 0 (λ q. b (omega arith)) ∙ a .rest x (λ d. b (omega arith));
+      size = simp length-set (p .size);
+      sum = λ x i h.
+          below-more (λ (x : ℕ). a ≤ x → getD (set new n v) x 0 ≡ getD old x 0 + f x) n (λ x b i. getD-set-other new n x v 0 (differs b) ∙ p .sum x i b)
+          (λ i. getD-set-same new n v 0 l ∙ e ∙ ap (λ (z : ℕ). z + f n) (p .rest n (λ i b. omega arith))) x h i;
+      rest = λ x b. getD-set-other new n x v 0 (λ q. b (omega arith) (omega arith)) ∙ p .rest x (λ i d. b i (omega arith));
     }
+
+-- the columns before a, and those from a on and below b
+pub part-join : (f : ℕ → ℕ) (a b : ℕ) (old mid new : List ℕ) → a ≤ b → Added f a old mid → AddedIn f a b mid new → Added f b old new
+part-join f a b old mid new o p q =
+    record {
+      size = q .size ∙ p .size;
+      sum = λ x h. before x h (ltb x a) (ltb→lt x a) (nltb→le x a);
+      rest = λ x n. q .rest x (λ i h. n h) ∙ p .rest x (λ h. n (omega arith));
+    }
+  where
+    before : (x : ℕ) → x < b → (t : Bool) → (T t → x < a) → (T (not t) → a ≤ x) → getD new x 0 ≡ getD old x 0 + f x
+    before x h true l g = let s = l tt in q .rest x (λ i k. omega arith) ∙ p .sum x s
+    before x h false l g = let s = g tt in q .sum x s h ∙ ap (λ (z : ℕ). z + f x) (p .rest x (λ k. omega arith))
 
 -- ---- the columns' times
 

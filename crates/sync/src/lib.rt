@@ -1,12 +1,16 @@
 // `find_sync`: the slant of a picture corrects the rate, and a fold at that rate gives the skip and the quality.
 // From slowrx.rs's sync.rs.
 ghost use mathlib.Core.Path.{_≡_};
-ghost use Prim.Native.Nat.{ℕ, _≤_, _<_, min};
+ghost use Prim.Native.Nat.{ℕ, _+_, _≤_, _<_, min};
+ghost use mathlib.Core.Bool.{true};
 ghost use lib.ListN.{length, getD};
-ghost use lib.Ieee.{nan};
+ghost use lib.Dec.{T};
+ghost use lib.Ieee.{nan, binary64, add};
+ghost use lib.Ieee.Positive.{positive};
+ghost use Rattle.hough.specs.Pass.{probeOf};
 ghost use Rattle.modespec.specs.Sizes.{radioLines};
 ghost use Rattle.pulse.specs.Limits.{allAtMost};
-ghost use Rattle.sync.specs.Fold.{flagAt, foldOf, ColumnTable, Added};
+ghost use Rattle.sync.specs.Fold.{flagAt, foldOf, ColumnTable, Added, AddedIn, Rising, Clear};
 ghost use Rattle.sync.specs.FindSync.{skipSeconds, skipOf, alignedOf, syncResultOf, SpecFits, SyncDone, rateAllowed, syncRefusal, SyncCall};
 use hough::Passes;
 use hough::SlantDeg;
@@ -28,11 +32,18 @@ pub enum SyncAnswer {
 
 // ---- the final fold
 
+// The number of the flag that covers the time start + column.
+fn place(rate: f64, start: f64, column: f64) -> usize
+    ensures { λ r. ⌜ r ≡ probeOf (add binary64 start column) rate ⌝ }
+{
+    ieee::to_u64((start + column) * rate / 4.0) as usize
+}
+
 // The flag that covers the time start + column: 0 beyond the last.
 fn flag_at(flags: &[u8], rate: f64, start: f64, column: f64) -> u8
     ensures { λ r. ⌜ r ≡ flagAt (now (flags .entry)) rate start column ⌝ }
 {
-    let i: usize = ieee::to_u64((start + column) * rate / 4.0) as usize;
+    let i = place(rate, start, column);
     if i < flags.len() { flags[i] } else { 0 }
 }
 
@@ -49,16 +60,100 @@ fn column_seconds(line: f64) -> [f64; 700]
     columns
 }
 
-// Adds the flags of the line that begins at `start`.
-fn fold_line(counts: &mut [u32], flags: &[u8], columns: &[f64], start: f64, rate: f64)
-    requires { ⌜ (length (now counts) ≡ 700) × (length (now columns) ≡ 700) × ((x : ℕ) → x < 700 → getD (now counts) x 0 ≤ 16711680) ⌝ }
-    ensures { λ r. ⌜ Added (λ x. flagAt (now (flags .entry)) rate start (getD (now (columns .entry)) x nan)) 700 (now (counts .entry)) (now (counts .exit)) ⌝ }
+// Whether no flag is above the limit. It goes on to the end, so that LLVM tests many flags at a time.
+fn all_at_most(limit: u8, flags: &[u8]) -> bool
+    ensures { λ r. ⌜ r ≡ allAtMost limit (now (flags .entry)) ⌝ }
 {
-    let mut x: usize = 0;
-    while x < 700 {
+    let mut allowed = true;
+    let mut i: usize = 0;
+    while i < flags.len() {
+        allowed = allowed & (flags[i] <= limit);
+        i += 1;
+    }
+    allowed
+}
+
+// Whether one look at 64 flags tells that none from `first` to `last` is set.
+fn are_clear(flags: &[u8], first: usize, last: usize) -> bool
+    ensures { λ r. ⌜ (r ≡ true → Clear (now (flags .entry)) first last) ⌝ }
+{
+    if last < first {
+        return false;
+    }
+    if last - first >= 64 {
+        return false;
+    }
+    if flags.len() < 64 {
+        return false;
+    }
+    if first > flags.len() - 64 {
+        return false;
+    }
+    all_at_most(0, &flags[first..first + 64])
+}
+
+// Whether one look tells that the 28 columns from `from` on show no flag that is set.
+fn block_is_clear(flags: &[u8], columns: &[f64], start: f64, rate: f64, from: usize) -> bool
+    requires { ⌜ (length (now columns) ≡ 700) × (from + 28 ≤ 700) × Rising rate start (now columns) ⌝ }
+    ensures { λ r. ⌜ (r ≡ true → (x : ℕ) → from ≤ x → x < from + 28 → flagAt (now (flags .entry)) rate start (getD (now (columns .entry)) x nan) ≡ 0) ⌝ }
+{
+    are_clear(
+        flags,
+        place(rate, start, columns[from]),
+        place(rate, start, columns[from + 27]),
+    )
+}
+
+// Adds the flags of 28 columns of a line. Where the columns show flags in order, most blocks of a picture are told to be clear at one look.
+fn fold_block(
+    counts: &mut [u32],
+    flags: &[u8],
+    columns: &[f64],
+    start: f64,
+    rate: f64,
+    rising: bool,
+    from: usize,
+)
+    requires { ⌜ (length (now counts) ≡ 700) × (length (now columns) ≡ 700) × (from + 28 ≤ 700) × (rising ≡ true → Rising rate start (now columns)) × ((x : ℕ) → from ≤ x → x < 700 → getD (now counts) x 0 ≤ 16711680) ⌝ }
+    ensures { λ r. ⌜ AddedIn (λ x. flagAt (now (flags .entry)) rate start (getD (now (columns .entry)) x nan)) from (from + 28) (now (counts .entry)) (now (counts .exit)) ⌝ }
+{
+    if rising {
+        if block_is_clear(flags, columns, start, rate, from) {
+            return;
+        }
+    }
+    let end = from + 28;
+    let mut x = from;
+    while x < end {
         counts[x] = counts[x] + flag_at(flags, rate, start, columns[x]) as u32;
         x += 1;
     }
+}
+
+// Adds the flags of the line that begins at `start`, in 25 blocks.
+fn fold_line(counts: &mut [u32], flags: &[u8], columns: &[f64], start: f64, rate: f64, rising: bool)
+    requires { ⌜ (length (now counts) ≡ 700) × (length (now columns) ≡ 700) × (rising ≡ true → Rising rate start (now columns)) × ((x : ℕ) → x < 700 → getD (now counts) x 0 ≤ 16711680) ⌝ }
+    ensures { λ r. ⌜ Added (λ x. flagAt (now (flags .entry)) rate start (getD (now (columns .entry)) x nan)) 700 (now (counts .entry)) (now (counts .exit)) ⌝ }
+{
+    let mut block: usize = 0;
+    while block < 25 {
+        fold_block(counts, flags, columns, start, rate, rising, block * 28);
+        block += 1;
+    }
+}
+
+// Whether x is above 0 and finite, as each rate and line of a picture is.
+fn is_positive(x: f64) -> bool
+    ensures { λ r. ⌜ (r ≡ true → T (positive x)) ⌝ }
+{
+    x > 0.0 && x < 1000000.0
+}
+
+// Whether later columns never show earlier flags.
+fn rises(rate: f64, line: f64) -> bool
+    ensures { λ r. ⌜ (r ≡ true → T (positive rate) × T (positive line)) ⌝ }
+{
+    is_positive(rate) && is_positive(line)
 }
 
 // The counts of n lines of 700 columns.
@@ -67,9 +162,10 @@ fn fold(counts: &mut [u32], flags: &[u8], rate: f64, line: f64, n: usize)
     ensures { λ r. ⌜ now (counts .exit) ≡ foldOf (now (flags .entry)) rate line n ⌝ }
 {
     let columns = column_seconds(line);
+    let rising = rises(rate, line);
     let mut y: usize = 0;
     while y < n {
-        fold_line(counts, flags, &columns, (y as f64) * line, rate);
+        fold_line(counts, flags, &columns, (y as f64) * line, rate, rising);
         y += 1;
     }
 }
@@ -140,19 +236,6 @@ pub fn find_sync_in(
 
 // ---- the call
 
-// Whether no flag is above 1. It goes on to the end, so that LLVM tests many flags at a time.
-fn flags_allowed(flags: &[u8]) -> bool
-    ensures { λ r. ⌜ r ≡ allAtMost 1 (now (flags .entry)) ⌝ }
-{
-    let mut allowed = true;
-    let mut i: usize = 0;
-    while i < flags.len() {
-        allowed = allowed & (flags[i] <= 1);
-        i += 1;
-    }
-    allowed
-}
-
 fn rate_allowed(rate: f64) -> bool
     ensures { λ r. ⌜ r ≡ rateAllowed rate ⌝ }
 {
@@ -175,7 +258,7 @@ fn refusal(flags: &[u8], rate: f64, mode: u8, img_places: usize, votes_places: u
     if flags.len() > 16_777_216 {
         return 6;
     }
-    if flags_allowed(flags) { 0 } else { 7 }
+    if all_at_most(1, flags) { 0 } else { 7 }
 }
 
 pub fn find_sync(flags: &[u8], rate: f64, mode: u8, img: &mut [u8], votes: &mut [u16]) -> SyncAnswer

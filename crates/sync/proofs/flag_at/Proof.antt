@@ -2,29 +2,24 @@
 use mathlib.Core.Path.{sym, ap, _∙_}
 use Prim.Native.Nat.{ℕ}
 use lib.ListN.{getD, List·getD-eq-default}
-use lib.Ieee.{ofBits}
-use Rattle.hough.specs.Pass.{probeOf}
 use Rattle.sync.specs.Fold.{flagAt}
 use borrow.Author.Needs.{needs}
 use Rattle.sync.proofs.flag_at.Statement.{statement}
 use Rattle.sync.proofs.flag_at.Tie as tie
-use Rattle.sync.proofs.flag_at.Reads as reads
-use Rattle.sync.proofs.flag_at.Lts as lts
-use Rattle.ieee.proofs.to_u64.Reads as to-u64-reads
 
-to-u64-requires : tie.Need-to-u64-requires
-to-u64-requires c κs = search needs
+place-requires : tie.Need-place-requires
+place-requires c κs = tt
 
 shared-slice-read-result : tie.Need-shared-slice-read-result
 shared-slice-read-result c = search needs
 
 returns : tie.Need-returns
-unfolding flagAt probeOf ofBits
-returns c = ap (λ (i : ℕ). getD (c .before .before .before .before .args .flags .now) i 0) (c .before .before .to-u64 .ensures)
+unfolding flagAt
+returns c = ap (λ (i : ℕ). getD (c .before .before .before .before .args .flags .now) i 0) (c .before .before .place .ensures)
 
 returns-2 : tie.Need-returns-2
-unfolding flagAt probeOf ofBits
-returns-2 c = let k = c .before .before .before .args .flags .now in sym (List·getD-eq-default k 0 (c .if1 .left)) ∙ ap (λ (i : ℕ). getD k i 0) (c .before .to-u64 .ensures)
+unfolding flagAt
+returns-2 c = let k = c .before .before .before .args .flags .now in sym (List·getD-eq-default k 0 (c .if1 .left)) ∙ ap (λ (i : ℕ). getD k i 0) (c .before .place .ensures)
 
 pub flag-at-spec : {M : Type 1} → statement M
-flag-at-spec = tie.close (tie.spec to-u64-requires shared-slice-read-result returns returns-2)
+flag-at-spec = tie.close (tie.spec place-requires shared-slice-read-result returns returns-2)
