@@ -55,12 +55,6 @@ part-join f a b old mid new o p q =
     before x h true l g = let s = l tt in q .rest x (λ i k. omega arith) ∙ p .sum x s
     before x h false l g = let s = g tt in q .sum x s h ∙ ap (λ (z : ℕ). z + f x) (p .rest x (λ k. omega arith))
 
--- ---- the columns' times
-
-pub table-more : (g : ℕ → Float) (n : ℕ) (t : List Float) → n < length t → ((k : ℕ) → k < n → getD t k nan ≡ g k) → (k : ℕ) → k < n + 1 → getD (set t n (g n)) k nan ≡ g k
-table-more g n t l h =
-    below-more (λ (k : ℕ). getD (set t n (g n)) k nan ≡ g k) n (λ k b. getD-set-other t n k (g n) nan (differs b) ∙ h k b) (getD-set-same t n (g n) nan l)
-
 -- ---- the lines
 
 module _ (flags : List ℕ) (rate line : Float) where
