@@ -1,5 +1,5 @@
 # Writes one check for each field of the #[repr(C)] structs in the files given
-# (the Rattle source and the Rust declarations of it): offset, size and kind as
+# (the Rattle sources and the Rust declarations of them): offset, size and kind as
 # the rules of repr(C) give them. test.c includes what is written.
 
 function snake(name) {
@@ -20,7 +20,7 @@ exported && /^pub struct / {
     end = 0
     widest = 1
     inside = 1
-    structs[FILENAME] += 1
+    structs[raw] += 1
     exported = 0
 }
 
@@ -52,10 +52,8 @@ inside && /^}/ {
 
 # A source that is laid out in another way must not pass unread.
 END {
-    for (i = 1; i < ARGC; i++) {
-        if (structs[ARGV[i]] != 10) {
-            printf "layout.awk: %s has %d records, not 10\n", ARGV[i], structs[ARGV[i]] > "/dev/stderr"
-            exit 1
-        }
+    if (structs[0] != 10 || structs[1] != 10) {
+        printf "layout.awk: %d records in the Rattle source and %d in the Rust, not 10\n", structs[0], structs[1] > "/dev/stderr"
+        exit 1
     }
 }

@@ -3,7 +3,7 @@ use mathlib.Core.Bool.{false}
 use mathlib.Core.List.{List, [], _∷_}
 use lib.IntN.{pos}
 use lib.Ieee.{Float, fin, binary64, ofBits, add, sub, mul, neg}
-use Rattle.ieee.specs.Casts.{fma}
+use Rattle.fma.specs.Fma.{fma}
 
 -- 2.0 * (2.0 * PI * k / 49.0).cos() for k = 7 (1,500 Hz) and k = 10 (2,300 Hz): the bits that the Rust gives on the comparing machine
 unfoldable pub coefficient1500 : Float

@@ -20,8 +20,8 @@ fn next_value(coeff: f64, s_prev: f64, s_prev2: f64, sample: f32) -> f64
 fn power_at(coeff: f64, s_prev: f64, s_prev2: f64) -> f64
     ensures { λ r. ⌜ r ≡ powerAt coeff «s_prev» «s_prev2» ⌝ }
 {
-    let inner: f64 = ieee::fma::mul_add(s_prev, s_prev, -coeff * s_prev * s_prev2);
-    ieee::fma::mul_add(s_prev2, s_prev2, inner)
+    let inner: f64 = fma::mul_add(s_prev, s_prev, -coeff * s_prev * s_prev2);
+    fma::mul_add(s_prev2, s_prev2, inner)
 }
 
 fn goertzel_power(samples: &[f32], coeff: f64) -> f64

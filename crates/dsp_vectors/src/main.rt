@@ -131,18 +131,11 @@ fn all(fd: i32) -> Tally {
 }
 
 fn main() {
-    let path = b"vectors";
-    let fd = os::open_read(path);
+    let fd = replay::opened(b"vectors");
     if fd < 0 {
-        os::fail(path);
         return;
     }
     let t = all(fd);
     libc::close(fd);
-    let ops = t.ops;
-    tally::line(b"goertzel_1500", ops[0]);
-    tally::line(b"goertzel_2300", ops[1]);
-    tally::line(b"sync_window", ops[2]);
-    tally::line(b"has_sync_at", ops[3]);
-    tally::last_line(t);
+    tally::report(b"goertzel_1500 goertzel_2300 sync_window has_sync_at", t);
 }

@@ -30,13 +30,14 @@ use Rattle.session.specs.Trace.{Trace}
 use Rattle.plain.specs.Lists.{flagsTaken, listReads}
 use Rattle.plain.proofs.TwoLists.{silence}
 use Rattle.session.proofs.Demand3.{as-plain, same-point}
-use Rattle.funnelivy.specs.declared.FunnelivySession.{FunnelivySession}
-use Rattle.funnelivy.specs.declared.FunnelivyOpened.{FunnelivyOpened}
-use Rattle.funnelivy.specs.declared.FunnelivyFed.{FunnelivyFed}
-use Rattle.funnelivy.specs.Record.{sessionOf}
-use Rattle.funnelivy.specs.Session.{openedWire, OpenedMeets, fedWire, endWire, readingWire}
+use Rattle.c_record.specs.declared.FunnelivySession.{FunnelivySession}
+use Rattle.c_record.specs.declared.FunnelivyOpened.{FunnelivyOpened}
+use Rattle.c_record.specs.declared.FunnelivyFed.{FunnelivyFed}
+use Rattle.c_record.specs.Record.{sessionOf}
+use Rattle.c_record.specs.Session.{openedWire, fedWire, endWire, readingWire}
+use Rattle.funnelivy.specs.Session.{OpenedMeets}
 use Rattle.funnelivy.specs.Host.{HostTrace, done, feeds, reads, fedAnswer, nextOf, readAnswer, Followed}
-use Rattle.funnelivy.proofs.RoundTrip.{round-trip}
+use Rattle.c_record.proofs.RoundTrip.{round-trip}
 
 -- ---- the plain session refuses with no number 0
 

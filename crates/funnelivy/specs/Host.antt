@@ -10,10 +10,10 @@ use Rattle.session.specs.declared.Session.{Session}
 use Rattle.session.specs.declared.Opened.the-variants.{Ready}
 use Rattle.session.specs.Hold.{OpenMeets, feedCall}
 use Rattle.session.specs.Trace.{Trace}
-use Rattle.funnelivy.specs.declared.FunnelivySession.{FunnelivySession}
-use Rattle.funnelivy.specs.declared.FunnelivyFed.{FunnelivyFed}
-use Rattle.funnelivy.specs.declared.FunnelivyReading.{FunnelivyReading}
-use Rattle.funnelivy.specs.Record.{slantOf, sessionOf}
+use Rattle.c_record.specs.declared.FunnelivySession.{FunnelivySession}
+use Rattle.c_record.specs.declared.FunnelivyFed.{FunnelivyFed}
+use Rattle.c_record.specs.declared.FunnelivyReading.{FunnelivyReading}
+use Rattle.c_record.specs.Record.{slantOf, sessionOf}
 use Rattle.funnelivy.specs.Session.{FedMeets, ReadingMeets}
 
 -- ---- what a host reads off the numbers

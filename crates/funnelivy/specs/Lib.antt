@@ -1,8 +1,6 @@
 -- What the exported calls answer, as the numbers of the C records. Definitions only.
 pub mod Sizes
-pub mod Counts
 pub mod Sound
 pub mod Report
-pub mod Record
 pub mod Session
 pub mod Host

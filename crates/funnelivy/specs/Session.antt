@@ -2,42 +2,23 @@
 -- that the record says, with its answer written as numbers. Definitions only.
 use mathlib.Core.Path.{_≡_}
 use Prim.Native.Nat.{ℕ}
-use mathlib.Core.Bool.{false}
 use mathlib.Core.List.{List}
-use lib.IntN.{pos}
-use lib.Ieee.{Float, fin}
-use Rattle.plain.specs.declared.End.{End}
-use Rattle.plain.specs.declared.End.the-variants as end
+use lib.Ieee.{Float}
 use Rattle.session.specs.declared.Opened.{Opened}
-use Rattle.session.specs.declared.Opened.the-variants as opened
 use Rattle.session.specs.declared.Fed.{Fed}
-use Rattle.session.specs.declared.Fed.the-variants as fed
 use Rattle.session.specs.declared.Given.{Given}
-use Rattle.session.specs.declared.Given.the-variants as given
 use Rattle.session.specs.Hold.{OpenMeets, FeedMeets, ReadMeets}
-use Rattle.funnelivy.specs.declared.FunnelivySession.{FunnelivySession}
-use Rattle.funnelivy.specs.declared.FunnelivyOpened.{FunnelivyOpened}
-use Rattle.funnelivy.specs.declared.FunnelivyFed.{FunnelivyFed}
-use Rattle.funnelivy.specs.declared.FunnelivyReading.{FunnelivyReading}
-use Rattle.funnelivy.specs.Report.{hasSlant, degreesOf}
-use Rattle.funnelivy.specs.Record.{sessionOf, sessionWire, noSession}
-
--- ---- open
-
-abbrev pub openedWire : Opened → FunnelivyOpened
-openedWire (opened.Ready s) = record { refusal = 0; session = sessionWire s }
-openedWire (opened.Refused k) = record { refusal = k; session = noSession }
+use Rattle.c_record.specs.declared.FunnelivySession.{FunnelivySession}
+use Rattle.c_record.specs.declared.FunnelivyOpened.{FunnelivyOpened}
+use Rattle.c_record.specs.declared.FunnelivyFed.{FunnelivyFed}
+use Rattle.c_record.specs.declared.FunnelivyReading.{FunnelivyReading}
+use Rattle.c_record.specs.Record.{sessionOf}
+use Rattle.c_record.specs.Session.{openedWire, fedWire, readingWire}
 
 pub record OpenedMeets (mode anchor : ℕ) (flagStore : List ℕ) (sampleStore first : List Float) (r : FunnelivyOpened) (sampleStore' : List Float) : Type 0 where
   pub opened : Opened
   pub is : r ≡ openedWire opened
   pub meets : OpenMeets mode anchor flagStore sampleStore first opened sampleStore'
-
--- ---- feed
-
-abbrev pub fedWire : Fed → FunnelivyFed
-fedWire (fed.Took n s) = record { refusal = 0; taken = n; session = sessionWire s }
-fedWire (fed.Refused k) = record { refusal = k; taken = 0; session = noSession }
 
 pub record FedMeets
     (w : FunnelivySession) (flagStore : List ℕ) (sampleStore : List Float) (img votes flags : List ℕ) (samples : List Float)
@@ -45,48 +26,6 @@ pub record FedMeets
   pub fed : Fed
   pub is : r ≡ fedWire fed
   pub meets : FeedMeets (sessionOf w) flagStore sampleStore img votes flags samples fed flagStore' sampleStore' img' votes'
-
--- ---- read
-
--- what only a report has is 0
-abbrev pub unreported : (refusal end taken evaluations start : ℕ) → Float → FunnelivyReading
-unreported refusal end taken evaluations start startQuality =
-    record {
-      refusal = refusal;
-      end = end;
-      taken = taken;
-      evaluations = evaluations;
-      start = start;
-      rate = fin false 0 (pos 0);
-      slant = fin false 0 (pos 0);
-      skip = pos 0;
-      «start_quality» = startQuality;
-      quality = fin false 0 (pos 0);
-      «has_slant» = 0;
-    }
-
--- 0 reported, 1 unfound, 2 cut short
-abbrev pub endWire : End → (taken evaluations : ℕ) → FunnelivyReading
-endWire (end.Reported start startQuality rate slant skip quality) taken evaluations =
-    record {
-      refusal = 0;
-      end = 0;
-      taken = taken;
-      evaluations = evaluations;
-      start = start;
-      rate = rate;
-      slant = degreesOf slant;
-      skip = skip;
-      «start_quality» = startQuality;
-      quality = quality;
-      «has_slant» = hasSlant slant;
-    }
-endWire end.Unfound taken evaluations = unreported 0 1 taken evaluations 0 (fin false 0 (pos 0))
-endWire (end.CutShort start startQuality) taken evaluations = unreported 0 2 taken evaluations start startQuality
-
-abbrev pub readingWire : Given → FunnelivyReading
-readingWire (given.Gave g) = endWire (g .end) (g .taken) (g .evaluations)
-readingWire (given.Refused k) = unreported k 0 0 0 0 (fin false 0 (pos 0))
 
 pub record ReadingMeets (w : FunnelivySession) (r : FunnelivyReading) : Type 0 where
   pub given : Given

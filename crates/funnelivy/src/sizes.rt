@@ -1,10 +1,10 @@
 // Sizes of a mode, and the columns of its pulse.
 ghost use mathlib.Core.Path.{_≡_};
 ghost use Rattle.modespec.specs.Calls.{columnsOf};
-ghost use Rattle.funnelivy.specs.Sizes.{sizesAnswer, columnsWire};
-use crate::FunnelivyColumnsAnswer;
-use crate::FunnelivySizesAnswer;
-use modespec::Columns;
+ghost use Rattle.c_answer.specs.Sizes.{columnsWire};
+ghost use Rattle.funnelivy.specs.Sizes.{sizesAnswer};
+use c_answer::FunnelivyColumnsAnswer;
+use c_answer::FunnelivySizesAnswer;
 
 // The sizes from which a host makes its stores. Refuses a mode above 15 with 1.
 #[no_mangle]
@@ -31,15 +31,5 @@ pub extern "C" fn funnelivy_sizes(mode: u8) -> FunnelivySizesAnswer
 pub extern "C" fn funnelivy_columns(mode: u8, n: u64) -> FunnelivyColumnsAnswer
     ensures { λ r. ⌜ r ≡ columnsWire (columnsOf mode n) ⌝ }
 {
-    let answer = modespec::sync_pulse_columns(mode, n as usize);
-    match answer {
-        Columns::Count(columns) => FunnelivyColumnsAnswer {
-            refusal: 0,
-            columns: columns as u64,
-        },
-        Columns::Refused(number) => FunnelivyColumnsAnswer {
-            refusal: number as u32,
-            columns: 0,
-        },
-    }
+    c_answer::sizes::columns_wire(modespec::sync_pulse_columns(mode, n as usize))
 }

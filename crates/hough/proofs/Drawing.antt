@@ -8,13 +8,15 @@ use lib.ListN.{length, getD, set, drop, length-set}
 use lib.Ieee.{Float, nan}
 use lib.Seq.{getD-set-same, getD-set-other, drop-set-lt}
 use borrow.Author.Count.{below-more}
+use Rattle.columns.specs.Columns.{listTo, columnPart}
+use Rattle.columns.proofs.Lists.{getD-list}
 use Rattle.hough.specs.Pass.{secondsAt}
-use Rattle.hough.specs.Steps.{columnPart, PartTable, secondsBy, RowDrawn, Shows, Drawn}
+use Rattle.hough.specs.Steps.{secondsBy, RowDrawn, Shows, Drawn}
 
 -- the seconds by the table are those of the definition
-pub seconds-at : (line : Float) (w x y : ℕ) (parts : List Float) → PartTable w parts → x < 700 → secondsBy line (getD parts x nan) y ≡ secondsAt line w x y
-unfolding secondsBy secondsAt columnPart
-seconds-at line w x y parts t h = ap (λ (z : Float). secondsBy line z y) (t .part x h)
+pub seconds-at : (line : Float) (w x y : ℕ) (parts : List Float) → parts ≡ listTo (columnPart w) 700 → x < 700 → secondsBy line (getD parts x nan) y ≡ secondsAt line w x y
+unfolding secondsBy secondsAt
+seconds-at line w x y parts t h = ap (λ (z : Float). secondsBy line z y) (rw t (getD-list (columnPart w) 700 x nan h))
 
 pub row-none : (f : ℕ → ℕ) (y : ℕ) (m : List ℕ) → RowDrawn f y 0 m m
 row-none f y m = record { size = refl; row = λ x h. absurd (not-suc-le-zero h); above = λ k h. refl; behind = refl }

@@ -2,10 +2,10 @@
 ghost use mathlib.Core.Path.{_≡_};
 ghost use Prim.Native.Nat.{_≤_, _<_, min};
 ghost use lib.ListN.{length, getD};
+ghost use Rattle.columns.specs.Columns.{listTo, columnPart};
 ghost use Rattle.hough.specs.Memory.{cleared};
-ghost use Rattle.hough.specs.Pass.{probeOf, flagOf};
-ghost use Rattle.hough.specs.Steps.{PartTable, secondsBy, RowDrawn, Drawn};
-use super::least;
+ghost use Rattle.hough.specs.Pass.{flagOf};
+ghost use Rattle.hough.specs.Steps.{secondsBy, RowDrawn, Drawn};
 
 pub fn clear(m: &mut [u8], n: usize)
     requires { ⌜ n ≤ length (now m) ⌝ }
@@ -18,33 +18,12 @@ pub fn clear(m: &mut [u8], n: usize)
     }
 }
 
-// x / W for each column x, worked out once and not in each row.
-fn column_parts(w: usize) -> [f64; 700]
-    requires { ⌜ w ≤ 65536 ⌝ }
-    ensures { λ r. ⌜ PartTable w r ⌝ }
-{
-    let mut parts = [0.0; 700];
-    let mut x: usize = 0;
-    while x < 700 {
-        parts[x] = (x as f64) / (w as f64);
-        x += 1;
-    }
-    parts
-}
-
 // The seconds from the first line's start to a pixel, for its column's part of a line.
 fn seconds(line: f64, part: f64, y: usize) -> f64
     requires { ⌜ y ≤ 65536 ⌝ }
     ensures { λ r. ⌜ r ≡ secondsBy line part y ⌝ }
 {
     ((y as f64) + part) * line
-}
-
-// The number of the flag that covers the time t.
-fn probe_index(t: f64, rate: f64) -> usize
-    ensures { λ r. ⌜ r ≡ probeOf t rate ⌝ }
-{
-    ieee::to_u64(t * rate / 4.0) as usize
 }
 
 // The flag of a number: 0 beyond the last.
@@ -63,13 +42,13 @@ fn draw_row(
     w: usize,
     y: usize,
 )
-    requires { ⌜ (441000 ≤ length (now img)) × PartTable w (now parts) × (y < 630) ⌝ }
+    requires { ⌜ (441000 ≤ length (now img)) × (now parts ≡ listTo (columnPart w) 700) × (y < 630) ⌝ }
     ensures { λ r. ⌜ RowDrawn (λ x. flagOf (now (flags .entry)) rate line w x y) y (min w 700) (now (img .entry)) (now (img .exit)) ⌝ }
 {
-    let n = least(w, 700);
+    let n = limits::min(w, 700);
     let mut x: usize = 0;
     while x < n {
-        img[y * 700 + x] = flag(flags, probe_index(seconds(line, parts[x], y), rate));
+        img[y * 700 + x] = flag(flags, columns::probe_at(seconds(line, parts[x], y), rate));
         x += 1;
     }
 }
@@ -79,7 +58,7 @@ pub fn draw(img: &mut [u8], flags: &[u8], rate: f64, line: f64, w: usize, n: usi
     requires { ⌜ (441000 ≤ length (now img)) × (w ≤ 65536) × (n ≤ 630) ⌝ }
     ensures { λ r. ⌜ Drawn (λ x y. flagOf (now (flags .entry)) rate line w x y) (min w 700) n (now (img .entry)) (now (img .exit)) ⌝ }
 {
-    let parts = column_parts(w);
+    let parts = columns::column_parts(w);
     let mut y: usize = 0;
     while y < n {
         draw_row(img, flags, &parts, rate, line, w, y);

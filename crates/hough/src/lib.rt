@@ -4,7 +4,7 @@ mod image;
 mod votes;
 
 ghost use mathlib.Core.Path.{_≡_};
-ghost use Prim.Native.Nat.{_≤_, min};
+ghost use Prim.Native.Nat.{_≤_};
 ghost use lib.ListN.{length};
 ghost use Rattle.modespec.specs.Sizes.{lineWidth};
 ghost use Rattle.hough.specs.Pass.{passOf};
@@ -43,12 +43,6 @@ pub enum Vote {
     Cell(usize),
 }
 
-fn least(a: usize, b: usize) -> usize
-    ensures { λ r. ⌜ r ≡ min a b ⌝ }
-{
-    if a < b { a } else { b }
-}
-
 // The answer of a pass whose votes have this leader.
 fn answer(leader: Leader, rate: f64, w: usize) -> Slant
     requires { ⌜ w ≤ 65536 ⌝ }
@@ -80,8 +74,8 @@ fn count_votes(
     let sines = angles::sines();
     let cosines = angles::cosines();
     let line = spec.line_seconds;
-    let rows = least(spec.image_lines as usize, 630);
-    votes::clear(votes, 144000);
+    let rows = limits::min(spec.image_lines as usize, 630);
+    votes::clear(votes, limits::VOTE_CELLS);
     image::draw(img, flags, rate, line, w, rows);
     votes::vote_rows(votes, img, &sines, &cosines, w, rows)
 }
@@ -100,8 +94,8 @@ pub fn hough_detect_slant(
     ensures { λ r. ⌜ PassDone (passOf (now (flags .entry)) rate spec w) r (now (img .entry)) (now (img .exit)) (now (votes .entry)) (now (votes .exit)) ⌝ }
 {
     let leader = count_votes(flags, rate, spec, w, img, votes);
-    image::clear(img, 441000);
-    votes::clear(votes, 144000);
+    image::clear(img, limits::IMG_BYTES);
+    votes::clear(votes, limits::VOTE_CELLS);
     answer(leader, rate, w)
 }
 

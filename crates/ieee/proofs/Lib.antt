@@ -11,13 +11,4 @@ pub mod Pack
 pub mod View
 pub mod Narrowing
 pub mod Rounding
-pub mod Sticky
-pub mod Ends
-pub mod Cutting
-pub mod Limbs
-pub mod Placing
-pub mod Sums
-pub mod Closing
-pub mod Combining
-pub mod Fusing
 pub mod Shifting

@@ -36,7 +36,7 @@ below n h = lt-of-le-of-lt h (lit< tt)
 below' : (n : ℕ) → n ≤ 2 ^ 53 → n < 2 ^ 64
 below' n h = lt-of-le-of-lt h (lit< tt)
 
-in-float : (n : ℕ) → n ≤ 2 ^ 53 → T (inFloat binary64 (pos n))
+pub in-float : (n : ℕ) → n ≤ 2 ^ 53 → T (inFloat binary64 (pos n))
 unfolding inFloat
 in-float n h = le→leb n (2 ^ 53) h
 

@@ -1,8 +1,7 @@
 -- Rust's float casts and roundings that Rattle's own operators leave out, as total functions on the logic's floats (`lib.Ieee`). Definitions only.
 use Prim.Native.Nat.{ℕ, _+_, _-_, _*_, _/_, _^_, min}
-use mathlib.Core.Bool.{Bool, cond}
-use lib.Dec.{eqb}
-use lib.Ieee.{Float, nan, inf, fin, Format, binary32, binary64, up, down, unlike, round, sum, add, lt, isNan}
+use mathlib.Core.Bool.{cond}
+use lib.Ieee.{Float, nan, inf, fin, Format, binary32, up, down, round, lt, isNan}
 
 -- `x.ceil() as uN`: up to a whole number, then to the nearest end of the range, and 0 for `nan`
 unfoldable pub ceilUnsigned : ℕ → Float → ℕ
@@ -24,19 +23,6 @@ unfolding round
 narrow nan = nan
 narrow (inf s) = inf s
 narrow (fin s m e) = round binary32 s (m * up e) (down e)
-
--- `f64::mul_add`: x * y + z, rounded once. The product's fraction is m * up e * (n * up d) / (down e * down d), with nothing rounded.
-unfoldable pub fma : Format → Float → Float → Float → Float
-unfolding sum add
-fma f nan y z = nan
-fma f (inf s) nan z = nan
-fma f (inf s) (inf t) z = add f (inf (unlike s t)) z
-fma f (inf s) (fin t n d) z = cond (eqb n 0) nan (add f (inf (unlike s t)) z)
-fma f (fin s m e) nan z = nan
-fma f (fin s m e) (inf t) z = cond (eqb m 0) nan (add f (inf (unlike s t)) z)
-fma f (fin s m e) (fin t n d) nan = nan
-fma f (fin s m e) (fin t n d) (inf u) = inf u
-fma f (fin s m e) (fin t n d) (fin u o g) = sum f (unlike s t) (m * up e * (n * up d) * down g) u (o * up g * (down e * down d)) (down e * down d * down g)
 
 -- `f64::max`: the larger, and where one is `nan` the other. Of two zeros, whose order Rust leaves open, the first.
 unfoldable pub maximum : Float → Float → Float

@@ -2,4 +2,3 @@
 pub mod Numbers
 pub mod Casts
 pub mod Patterns
-pub mod Near

@@ -1,6 +1,4 @@
 // Float operations of Rust that Rattle lacks, each total and equal to one definition.
-pub mod fma;
-
 ghost use mathlib.Core.Path.{_≡_};
 ghost use Prim.Native.Nat.{_+_, _≤_, _<_, _^_};
 ghost use lib.Ieee as Ieee;

@@ -22,7 +22,7 @@ fn right(op: u64, a: u64, b: u64, c: u64, expected: u64) -> bool {
             ieee::to_f64(replay::float32_of(replay::low_half(a))),
             expected,
         ),
-        9 => replay::same_bits(ieee::fma::mul_add(x, y, z), expected),
+        9 => replay::same_bits(fma::mul_add(x, y, z), expected),
         _ => false,
     }
 }
@@ -53,24 +53,14 @@ fn all(fd: i32) -> Tally {
 }
 
 fn main() {
-    let path = b"vectors";
-    let fd = os::open_read(path);
+    let fd = replay::opened(b"vectors");
     if fd < 0 {
-        os::fail(path);
         return;
     }
     let t = all(fd);
     libc::close(fd);
-    let ops = t.ops;
-    tally::line(b"to_u64", ops[0]);
-    tally::line(b"to_i64", ops[1]);
-    tally::line(b"round", ops[2]);
-    tally::line(b"round_to_i64", ops[3]);
-    tally::line(b"ceil_to_u64", ops[4]);
-    tally::line(b"max", ops[5]);
-    tally::line(b"clamp", ops[6]);
-    tally::line(b"to_f32", ops[7]);
-    tally::line(b"to_f64", ops[8]);
-    tally::line(b"mul_add", ops[9]);
-    tally::last_line(t);
+    tally::report(
+        b"to_u64 to_i64 round round_to_i64 ceil_to_u64 max clamp to_f32 to_f64 mul_add",
+        t,
+    );
 }

@@ -1,7 +1,8 @@
 -- What follows from a mode's row (01-scope.md, "Modes", "Fold and pulse window", "Slant and rate", "Start search"): lines, flags and columns.
 -- The float steps are those of the functions of modespec.rs, sync.rs and sync_start.rs that are named here, in their order. Definitions only.
 use Prim.Native.Nat.{ℕ, _+_, _/_, max}
-use mathlib.Core.Bool.{false}
+use mathlib.Core.Bool.{Bool, false, _||_}
+use lib.Dec.{eqb}
 use lib.IntN.{pos}
 use lib.Ieee.{Float, fin, binary64, add, sub, mul, div, neg, toUnsigned}
 use Rattle.ieee.specs.Numbers.{whole}
@@ -15,6 +16,10 @@ use Rattle.modespec.specs.declared.SyncPosition.the-variants.{LineStart,
 -- 11,025 Hz, the working rate
 abbrev pub workingRate : Float
 workingRate = fin false 11025 (pos 0)
+
+-- Robot 24 and 36, whose lines have parity tones
+abbrev pub robot : ℕ → Bool
+robot mode = eqb mode 3 || eqb mode 4
 
 -- `radio_lines`: the lines sent for a picture. PD sends two image rows in one.
 abbrev pub radioLinesBy : ChannelLayout → ℕ → ℕ

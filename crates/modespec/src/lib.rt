@@ -1,7 +1,7 @@
 // SSTV mode specifications: the sixteen rows, and the sizes that follow from a row.
 // From slowrx.rs's modespec.rs; the sizes are those of sync.rs and sync_start.rs.
 ghost use mathlib.Core.Path.{_≡_};
-ghost use Prim.Native.Nat.{_<_, _^_, max};
+ghost use Prim.Native.Nat.{_<_, _^_};
 ghost use Rattle.modespec.specs.ModeSpec.{specOf};
 ghost use Rattle.modespec.specs.Sizes as Sizes;
 ghost use Rattle.modespec.specs.Calls.{columnsOf};
@@ -296,6 +296,13 @@ impl ModeSpec {
     }
 }
 
+// Robot 24 and 36 mark by a tone which lines are odd: the start search asks the tone, and a session keeps the samples that it reads.
+pub fn has_parity_tone(mode: u8) -> bool
+    ensures { λ r. ⌜ r ≡ Sizes.robot mode ⌝ }
+{
+    mode == 3 || mode == 4
+}
+
 // Seconds from a line's start to its sync pulse: the inverse of `find_sync`'s skip.
 pub fn pulse_offset_seconds(spec: ModeSpec) -> f64
     ensures { λ r. ⌜ r ≡ Sizes.pulseOffset spec ⌝ }
@@ -307,19 +314,12 @@ pub fn pulse_offset_seconds(spec: ModeSpec) -> f64
     }
 }
 
-// Rust's `a.max(b)`.
-fn larger(a: usize, b: usize) -> usize
-    ensures { λ r. ⌜ r ≡ max a b ⌝ }
-{
-    if a < b { b } else { a }
-}
-
 // Lines folded in one evaluation of the start search.
 pub fn window_lines(spec: ModeSpec) -> usize
     ensures { λ r. ⌜ r ≡ Sizes.windowLines spec ⌝ }
 {
     let for_seconds: usize = ieee::ceil_to_u64(MIN_WINDOW_SECONDS / spec.line_seconds) as usize;
-    larger(MIN_WINDOW_LINES, for_seconds)
+    limits::max(MIN_WINDOW_LINES, for_seconds)
 }
 
 // Samples of a line at the working rate.
@@ -352,7 +352,7 @@ pub fn line_width(spec: ModeSpec) -> usize
     ensures { λ r. ⌜ r ≡ Sizes.lineWidth spec ⌝ }
 {
     let width: usize = ieee::to_u64((spec.line_seconds / spec.sync_seconds) * 4.0) as usize;
-    larger(1, width)
+    limits::max(1, width)
 }
 
 // Columns that a sync pulse spans among n columns of a line: at least 1, and at most n where n is not 0.
@@ -361,7 +361,7 @@ pub fn pulse_columns(spec: ModeSpec, n: usize) -> usize
 {
     let share: f64 = (spec.sync_seconds / spec.line_seconds)
         * std::num::nearest_u64_to_f64(n as u64);
-    let most: f64 = std::num::nearest_u64_to_f64(larger(n, 1) as u64);
+    let most: f64 = std::num::nearest_u64_to_f64(limits::max(n, 1) as u64);
     ieee::to_u64(ieee::clamp(ieee::round(share), 1.0, most)) as usize
 }
 

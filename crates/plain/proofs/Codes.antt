@@ -1,38 +1,24 @@
 -- A feed that no number applies to: what it says of the call.
 -- Assumes nothing.
-use mathlib.Core.Path.{_≡_, refl, sym, _∙_, ap}
-use mathlib.Core.Bool.{Bool, true, false, cond, not, _&&_}
-use mathlib.Core.List.{List, [], _∷_, _++_}
-use Prim.Native.Nat.{ℕ, _+_, _*_, _≤_, _<_}
+use mathlib.Core.Path.{_≡_}
+use mathlib.Core.Bool.{Bool, true, false, false≢true, not, _&&_}
+use mathlib.Core.List.{List}
+use Prim.Native.Nat.{ℕ, _+_, _*_, _≤_}
 use native.Mathlib.Omega.{arith}
 use lib.ListN.{length}
 use lib.Dec.{eqb, ltb}
 use lib.Ieee.{Float}
-use borrow.Author.Tests.{eqb-true, eqb-false, ltb-false, not-false}
-use Rattle.sync_start.specs.Evaluate.{robot}
+use borrow.Author.Tests.{eqb-true, ltb-false, not-false}
+use Rattle.limits.specs.Refusals.{orElse}
+use Rattle.limits.proofs.Causes.{none, or-else-none}
+use Rattle.modespec.specs.Sizes.{robot}
 use Rattle.plain.specs.declared.Phase.{Phase}
 use Rattle.plain.specs.Plain.{Setup, endedPhase}
-use Rattle.plain.specs.Calls.{Lengths, feedCode, memoryCode, soundCode, orderCode, orElse, shortSamples}
-use Rattle.plain.specs.Refusals.{anyAbove, anyUnsound}
-
-false-true : _≡_ {A = Bool} false true → ⊥
-false-true e = let z : _≡_ {A = ℕ} 0 1 = cc in omega arith
-
-pub or-else-none : (a b : ℕ) → orElse a b ≡ 0 → (a ≡ 0) × (b ≡ 0)
-or-else-none a b e = go (eqb a 0) refl e
-  where
-    go : (t : Bool) → eqb a 0 ≡ t → cond t b a ≡ 0 → (a ≡ 0) × (b ≡ 0)
-    go true h e = (eqb-true a 0 h, e)
-    go false h e = absurd (eqb-false a 0 h e)
-
--- a cause that gave no number does not apply
-pub none : (b : Bool) (n r : ℕ) → 0 < n → cond b n r ≡ 0 → (b ≡ false) × (r ≡ 0)
-none true n r h e = absurd (omega arith)
-none false n r h e = (refl, e)
+use Rattle.plain.specs.Calls.{Lengths, feedCode, memoryCode, soundCode, orderCode, shortSamples}
 
 pub and-false : (b c : Bool) → b && c ≡ false → b ≡ true → c ≡ false
 and-false true c e h = e
-and-false false c e h = absurd (false-true h)
+and-false false c e h = absurd (false≢true h)
 
 pub room-of-memory : (mode capacity : ℕ) (m : Lengths) → memoryCode mode capacity m ≡ 0
     → (m .flags ≡ capacity) × (robot mode ≡ true → 4 * capacity + 4 ≤ m .samples) × (441000 ≤ m .img) × (144000 ≤ m .votes)

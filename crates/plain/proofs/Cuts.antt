@@ -1,19 +1,20 @@
 -- A piece cut in two leaves the session that the piece whole leaves.
 -- Assumes nothing.
 use mathlib.Core.Path.{_≡_, refl, sym, _∙_, ap}
-use mathlib.Core.Bool.{Bool, true, false, cond, not, _||_}
+use mathlib.Core.Bool.{Bool, true, false, cond, not, _&&_, _||_}
 use mathlib.Core.List.{List, [], _∷_, _++_}
 use Prim.Native.Nat.{ℕ, _+_, _*_, _≤_}
 use native.Mathlib.Omega.{arith}
 use lib.ListN.{length, length-append}
-use lib.Dec.{eqb, ltb}
+use lib.Dec.{eqb, ltb, leb}
 use lib.Ieee.{Float}
 use borrow.Author.Tests.{eq-eqb, le-ltb}
+use Rattle.limits.specs.Ranges.{allAtMost, anyAbove, anyUnsound, unsound}
+use Rattle.limits.proofs.Causes.{none}
 use Rattle.plain.specs.declared.Phase.{Phase}
 use Rattle.plain.specs.Plain.{Setup, Plain, endedPhase, through}
-use Rattle.plain.specs.Refusals.{anyAbove, anyUnsound, unsound}
 use Rattle.plain.specs.Calls.{Lengths, feed, feedCode, memoryCode, soundCode, orderCode, after, runTo}
-use Rattle.plain.proofs.Codes.{code-parts, room-of-sound, none}
+use Rattle.plain.proofs.Codes.{code-parts, room-of-sound}
 use Rattle.plain.proofs.Laws.{through-append, through-ended, or-left, or-right}
 use Rattle.plain.proofs.Lists.{through-setup}
 
@@ -22,9 +23,13 @@ or-assoc true b c = refl
 or-assoc false b c = refl
 
 above-append : (xs ys : List ℕ) → anyAbove (xs ++ ys) ≡ anyAbove xs || anyAbove ys
-unfolding anyAbove
+unfolding allAtMost
 above-append [] ys = refl
-above-append (x ∷ xs) ys = ap (λ (b : Bool). ltb 1 x || b) (above-append xs ys) ∙ or-assoc (ltb 1 x) (anyAbove xs) (anyAbove ys)
+above-append (x ∷ xs) ys = go (above-append xs ys) (leb x 1)
+  where
+    go : anyAbove (xs ++ ys) ≡ anyAbove xs || anyAbove ys → (b : Bool) → not (b && allAtMost 1 (xs ++ ys)) ≡ not (b && allAtMost 1 xs) || anyAbove ys
+    go h true = h
+    go h false = refl
 
 unsound-append : (xs ys : List Float) → anyUnsound (xs ++ ys) ≡ anyUnsound xs || anyUnsound ys
 unfolding anyUnsound

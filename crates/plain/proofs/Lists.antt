@@ -6,20 +6,20 @@ use mathlib.Core.List.{List, [], _∷_, _++_, append-nil, append-assoc}
 use Prim.Native.Nat.{ℕ, zero, suc, _+_, _-_, _*_, _≤_}
 use native.Mathlib.Nat.{sub-zero}
 use native.Mathlib.Omega.{arith}
-use lib.ListN.{length, take, drop, length-append, length-take, length-drop}
+use lib.ListN.{length, take, drop, length-append}
 use lib.Seq.{take-nil, take-take, take-add, take-append-le, drop-append-le}
 use lib.Dec.{eqb}
 use lib.Ieee.{Float}
 use borrow.Author.Tests.{eqb-true}
 use Rattle.plain.specs.declared.Phase.{Phase}
 use Rattle.plain.specs.declared.Phase.the-variants.{Searching, Collecting, Reported, Unfound, CutShort}
-use Rattle.plain.specs.Plain.{Setup, Plain, windowOf, endedPhase, dueAt, evaluating, evaluatingBy, evaluatedBy, evaluationAt, reporting, reportingBy, reported, fullAt, ending, withPhase, endOf, events, joined, step, through, opened}
-use Rattle.plain.specs.Calls.{Lengths, Call, feed, read, feedCode, after, runTo}
+use Rattle.plain.specs.Plain.{Setup, Plain, endedPhase, dueAt, evaluating, evaluatingBy, evaluatedBy, evaluationAt, reporting, reportingBy, reported, fullAt, ending, withPhase, endOf, events, joined, step, through, opened}
+use Rattle.plain.specs.Calls.{Call, feed, read, feedCode, after, runTo}
 use Rattle.plain.specs.Lists.{acceptedFlags, acceptedSamples, toTheEnd, flagsTaken, readsBy, readsOf, listReads}
 use Rattle.plain.proofs.Codes.{feed-four}
 use Rattle.plain.proofs.Laws.{nil-of-length, four-left, four-there, through-append, through-ended, through-nil, through-cons}
 
-drop-take : {A : Type 0} (a t : ℕ) (l : List A) → drop a (take t l) ≡ take (t - a) (drop a l)
+pub drop-take : {A : Type 0} (a t : ℕ) (l : List A) → drop a (take t l) ≡ take (t - a) (drop a l)
 drop-take zero t l = rw sub-zero
 drop-take (suc a) zero l = let e : 0 - suc a ≡ 0 = omega arith in rw e
 drop-take (suc a) (suc t) [] = sym (take-nil (suc t - suc a))

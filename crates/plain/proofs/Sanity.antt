@@ -2,9 +2,9 @@
 -- not owed to w + 64j.
 -- Assumes nothing.
 use mathlib.Core.Path.{_≡_, refl, sym, _∙_, ap, ap₂, subst}
-use mathlib.Core.Bool.{Bool, true, false, cond}
+use mathlib.Core.Bool.{Bool, true, false, false≢true, cond}
 use mathlib.Core.List.{List, [], _∷_, _++_}
-use Prim.Native.Nat.{ℕ, suc, _+_, _-_, _*_, _/_, _%_, _≤_, _<_}
+use Prim.Native.Nat.{ℕ, _+_, _-_, _*_, _/_, _%_, _≤_, _<_}
 use native.Mathlib.Omega.{arith}
 use lib.ListN.{length, take, drop, length-append}
 use lib.Dec.{eqb, leb}
@@ -17,10 +17,7 @@ use Rattle.plain.specs.Calls.{Call, runTo}
 use Rattle.plain.specs.Lists.{acceptedFlags, acceptedSamples, searching, searchedOf, owed}
 use Rattle.plain.proofs.Laws.{through-nil, through-cons, evaluating-live}
 use Rattle.plain.proofs.Sizes.{window-some}
-use Rattle.plain.proofs.Lists.{same-events, step-ended, step-live, step-flags, step-setup, through-setup, run-through}
-
-false-true : _≡_ {A = Bool} false true → ⊥
-false-true e = let z : _≡_ {A = ℕ} 0 1 = cc in omega arith
+use Rattle.plain.proofs.Lists.{step-ended, step-live, step-flags, step-setup, through-setup, run-through}
 
 -- ---- no end before F flags
 
@@ -46,8 +43,8 @@ live-early : (h : Phase) → endedPhase h ≡ false → Early h
 live-early Searching e = tt
 live-early (Collecting s) e = tt
 live-early (Reported s r) e = tt
-live-early Unfound e = absurd (false-true (sym e))
-live-early (CutShort s) e = absurd (false-true (sym e))
+live-early Unfound e = absurd (false≢true (sym e))
+live-early (CutShort s) e = absurd (false≢true (sym e))
 
 report-early : (h : Phase) (p : Plain) → p .phase ≡ h → endedPhase h ≡ false → Early (reportingBy h p .phase)
 report-early Searching p e l = subst Early (sym e) tt
@@ -56,9 +53,9 @@ report-early (Collecting s) p e l = go (eqb (length (p .flags)) (fullAt (p .setu
     go : (b : Bool) → Early (cond b (reported p s) p .phase)
     go true = tt
     go false = subst Early (sym e) tt
-report-early (Reported s r) p e l = absurd (false-true (sym l))
-report-early Unfound p e l = absurd (false-true (sym l))
-report-early (CutShort s) p e l = absurd (false-true (sym l))
+report-early (Reported s r) p e l = absurd (false≢true (sym l))
+report-early Unfound p e l = absurd (false≢true (sym l))
+report-early (CutShort s) p e l = absurd (false≢true (sym l))
 
 report-live : (p : Plain) → endedPhase (p .phase) ≡ false → Early (reporting p .phase)
 unfolding reporting
@@ -204,7 +201,7 @@ unfolding evaluating reporting
 events-counts p = end-counts (reporting (evaluating p)) ∙ report-counts (evaluating p .phase) (evaluating p)
 
 idle-phase : (h : Phase) (p : Plain) → searching h ≡ false → evaluatingBy h p ≡ p
-idle-phase Searching p e = absurd (false-true (sym e))
+idle-phase Searching p e = absurd (false≢true (sym e))
 idle-phase (Collecting s) p e = refl
 idle-phase (Reported s r) p e = refl
 idle-phase Unfound p e = refl
@@ -226,7 +223,7 @@ ending-idle p e = go (eqb (length (p .flags)) (p .setup .capacity))
     go false = e
 
 reporting-idle : (h : Phase) (p : Plain) → p .phase ≡ h → searching h ≡ false → searching (reportingBy h p .phase) ≡ false
-reporting-idle Searching p e i = absurd (false-true (sym i))
+reporting-idle Searching p e i = absurd (false≢true (sym i))
 reporting-idle (Collecting s) p e i = go (eqb (length (p .flags)) (fullAt (p .setup .mode) s))
   where
     go : (b : Bool) → searching (cond b (reported p s) p .phase) ≡ false
@@ -280,10 +277,10 @@ through-idle p (x ∷ xs) ys i =
 -- a searching session makes the evaluation that is due
 live-searching : (h : Phase) → searching h ≡ true → endedPhase h ≡ false
 live-searching Searching e = refl
-live-searching (Collecting s) e = absurd (false-true e)
-live-searching (Reported s r) e = absurd (false-true e)
-live-searching Unfound e = absurd (false-true e)
-live-searching (CutShort s) e = absurd (false-true e)
+live-searching (Collecting s) e = absurd (false≢true e)
+live-searching (Reported s r) e = absurd (false≢true e)
+live-searching Unfound e = absurd (false≢true e)
+live-searching (CutShort s) e = absurd (false≢true e)
 
 due-counts : (h : Phase) (p : Plain) → searching h ≡ true → evaluatingBy h p .evaluations ≡ p .evaluations + cond (dueAt (p .setup .mode) (length (p .flags))) 1 0
 due-counts Searching p e = go (dueAt (p .setup .mode) (length (p .flags)))
@@ -291,10 +288,10 @@ due-counts Searching p e = go (dueAt (p .setup .mode) (length (p .flags)))
     go : (b : Bool) → cond b (evaluatedBy p (evaluationAt p)) p .evaluations ≡ p .evaluations + cond b 1 0
     go true = refl
     go false = omega arith
-due-counts (Collecting s) p e = absurd (false-true e)
-due-counts (Reported s r) p e = absurd (false-true e)
-due-counts Unfound p e = absurd (false-true e)
-due-counts (CutShort s) p e = absurd (false-true e)
+due-counts (Collecting s) p e = absurd (false≢true e)
+due-counts (Reported s r) p e = absurd (false≢true e)
+due-counts Unfound p e = absurd (false≢true e)
+due-counts (CutShort s) p e = absurd (false≢true e)
 
 step-made : (p : Plain) (x : ℕ) (four : List Float) → searching (p .phase) ≡ true → p .evaluations ≡ owed (p .setup .mode) (length (p .flags))
     → step p x four .evaluations ≡ owed (p .setup .mode) (length (p .flags) + 1)

@@ -1,12 +1,12 @@
 -- Demand 3, second theorem, on plain sessions: the flags taken and the parity samples that evaluations read decide the point,
 -- whatever the anchors, cuts, refused calls and other samples.
 -- Assumes nothing.
-use mathlib.Core.Path.{_≡_, refl, sym, _∙_, ap, ap₂, subst}
+use mathlib.Core.Path.{_≡_, refl, sym, _∙_, ap, subst}
 use mathlib.Core.Bool.{Bool, true, false, cond}
 use mathlib.Core.List.{List, [], _∷_, _++_, append-assoc, List·Memᴰ, Memᴰ·append-left, Memᴰ·append-right}
 use Prim.Native.Nat.{ℕ, suc, _+_, _-_, _*_, _/_, _≤_, _<_}
 use native.Mathlib.Omega.{arith}
-use lib.ListN.{length, take, drop, getD, length-append, length-take, take-append-drop, List·getD-append}
+use lib.ListN.{length, take, drop, getD, length-append, take-append-drop, List·getD-append}
 use lib.Seq.{length-take-le}
 use lib.Dec.{eqb}
 use lib.IntN.{pos}
@@ -17,11 +17,11 @@ use Rattle.sync_start.proofs.Evaluations.{parity-only, reads-known}
 use Rattle.plain.specs.declared.Phase.{Phase}
 use Rattle.plain.specs.declared.Phase.the-variants.{Searching, Collecting, Reported, Unfound, CutShort}
 use Rattle.plain.specs.Plain.{Setup, Plain, windowOf, endedPhase, dueAt, evaluating, evaluatingBy, evaluatedBy, evaluationAt, reporting, reportingBy, reported, fullAt, ending, withPhase, endOf, events, joined, step, through, opened}
-use Rattle.plain.specs.Point.{Stage, Point, pointOf, pointLess, stageOf, stageLess}
+use Rattle.plain.specs.Point.{Stage, pointOf, pointLess, stageOf, stageLess}
 use Rattle.plain.specs.Calls.{Call, runTo}
 use Rattle.plain.specs.Lists.{acceptedFlags, acceptedSamples, toTheEnd, flagsTaken, readsBy, readsOf, listReads}
-use Rattle.plain.proofs.Laws.{four-left, four-there, through-cons, through-ended, through-nil}
-use Rattle.plain.proofs.Lists.{same-events, step-live, step-flags, step-samples, run-through, accepted-four, through-flags, through-samples, samplesTo, through-end, reads-cons, reads-end, list-reads, taken-flags, through-setup}
+use Rattle.plain.proofs.Laws.{four-left, through-cons, through-ended, through-nil}
+use Rattle.plain.proofs.Lists.{step-live, step-flags, step-samples, run-through, accepted-four, through-samples, samplesTo, through-end, reads-cons, reads-end, list-reads, through-setup}
 
 abbrev pub silence : Float
 silence = fin false 0 (pos 0)

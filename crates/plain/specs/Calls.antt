@@ -1,16 +1,17 @@
 -- Calls on the plain session (01-scope.md, "Session", "The plain session of demand 3", "Numbers given by cause"):
 -- which are refused, what each answers, and what a list of them does. Definitions only.
 use Prim.Native.Nat.{ℕ, _+_, _-_, _*_, _^_}
-use mathlib.Core.Bool.{Bool, true, false, cond, not, _&&_, _||_}
+use mathlib.Core.Bool.{Bool, cond, not, _&&_}
 use mathlib.Core.List.{List, [], _∷_}
 use lib.ListN.{length}
 use lib.Dec.{ltb, eqb}
 use lib.Ieee.{Float}
-use Rattle.sync_start.specs.Evaluate.{robot}
+use Rattle.limits.specs.Refusals.{_⇒_, firstOf, orElse}
+use Rattle.limits.specs.Ranges.{anyAbove, anyUnsound}
+use Rattle.modespec.specs.Sizes.{robot}
 use Rattle.plain.specs.declared.Phase.{Phase}
 use Rattle.plain.specs.Plain.{Setup, Plain, windowOf, pictureOf, endedPhase, through}
 use Rattle.plain.specs.Point.{Point, pointOf}
-use Rattle.plain.specs.Refusals.{Cause, _⇒_, firstOf, anyAbove, anyUnsound}
 
 -- of stores and work memory only the lengths
 pub record Lengths : Type 0 where
@@ -69,10 +70,6 @@ soundCode flags samples =
 -- of the order of calls
 abbrev pub orderCode : Phase → ℕ
 orderCode phase = firstOf ((endedPhase phase ⇒ 10) ∷ [])
-
--- the first of these numbers that is not 0
-abbrev pub orElse : ℕ → ℕ → ℕ
-orElse a b = cond (eqb a 0) b a
 
 unfoldable pub feedCode : Setup → Phase → Lengths → List ℕ → List Float → ℕ
 feedCode u phase memory flags samples = orElse (memoryCode (u .mode) (u .capacity) memory) (orElse (soundCode flags samples) (orderCode phase))

@@ -1,5 +1,4 @@
 -- The plain session of demand 3. Definitions only.
-pub mod Refusals
 pub mod Plain
 pub mod Point
 pub mod Calls

@@ -9,7 +9,7 @@ use lib.Ieee.{Float}
 use Rattle.sync_start.specs.Evaluate.{parityReads}
 use Rattle.plain.specs.declared.Phase.{Phase}
 use Rattle.plain.specs.declared.Phase.the-variants.{Searching, Collecting, Reported, Unfound, CutShort}
-use Rattle.plain.specs.Plain.{Plain, windowOf, endedPhase, dueAt, joined, step, through}
+use Rattle.plain.specs.Plain.{Plain, windowOf, endedPhase, dueAt, joined, step}
 use Rattle.plain.specs.Calls.{Call, feed, read, feedCode, after}
 
 -- ---- the flags taken: the pieces of the feeds that were not refused, joined, up to the end that the session reaches

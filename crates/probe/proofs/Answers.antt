@@ -6,9 +6,10 @@ use Prim.Native.Nat.{ℕ, suc, _≤_, _<_, _^_}
 use lib.ListN.{length}
 use lib.Ieee.{Float}
 use borrow.Author.Tests.{lt-ltb, le-ltb, eq-eqb, ne-eqb}
+use Rattle.limits.specs.Ranges.{anyUnsound}
 use Rattle.probe.specs.declared.WindowAnswer.the-variants.{Filled, Refused as NotFilled}
 use Rattle.probe.specs.declared.ProbeAnswer.the-variants.{Yes, No, Refused}
-use Rattle.probe.specs.Refusals.{allOf, inRange, isFinite, shiftAllowed}
+use Rattle.probe.specs.Refusals.{allOf, isFinite, shiftAllowed}
 use Rattle.probe.specs.Window.{windowOf, windowRefusal, Windowed}
 use Rattle.probe.specs.Decision.{hasSync, probeRefusal, probeAnswer}
 
@@ -26,11 +27,11 @@ module _ (sound : List Float) (centre : ℕ) (buffer : List Float) where
   unfolding windowRefusal
   buffer-other h l = refused 4 (rw (le-ltb (2 ^ 62) centre h, ne-eqb (length buffer) 512 l))
 
-  pub sound-bad : centre ≤ 2 ^ 62 → length buffer ≡ 512 → allOf inRange sound ≡ false → Windowed sound centre buffer (NotFilled 8) buffer
+  pub sound-bad : centre ≤ 2 ^ 62 → length buffer ≡ 512 → anyUnsound sound ≡ true → Windowed sound centre buffer (NotFilled 8) buffer
   unfolding windowRefusal
   sound-bad h l a = refused 7 (rw (le-ltb (2 ^ 62) centre h, eq-eqb (length buffer) 512 l, a))
 
-  pub window-filled : (after : List Float) → centre ≤ 2 ^ 62 → length buffer ≡ 512 → allOf inRange sound ≡ true → after ≡ windowOf sound centre
+  pub window-filled : (after : List Float) → centre ≤ 2 ^ 62 → length buffer ≡ 512 → anyUnsound sound ≡ false → after ≡ windowOf sound centre
       → Windowed sound centre buffer Filled after
   unfolding windowRefusal
   window-filled after h l a w =

@@ -2,12 +2,11 @@
 use mathlib.Core.Path.{_≡_, refl}
 use mathlib.Core.Bool.{false}
 use mathlib.Core.List.{List}
-use Prim.Native.Nat.{ℕ, suc, _+_, _-_, _*_, _^_, _≤_, _<_, max}
+use Prim.Native.Nat.{ℕ, suc, _+_, _-_, _*_, _≤_, _<_, max}
 use native.Mathlib.Omega.{arith}
 use lib.ListN.{length, getD}
-use lib.Dec.{T, le→leb}
 use lib.IntN.{pos, negsuc}
-use lib.Ieee.{Float, nan, fin, binary64, add, sub, mul, div, neg, lt, ofInt, inFloat}
+use lib.Ieee.{Float, nan, fin, binary64, add, sub, mul, div, neg, lt, ofInt}
 use borrow.Author.Tests.{le-leb, lt-leb}
 use Rattle.ieee.specs.Numbers.{whole}
 use Rattle.dsp.specs.Spectrum.{powerOf}
@@ -23,11 +22,6 @@ one = fin false 1 (pos 0)
 
 abbrev two : Float
 two = fin false 1 (pos 1)
-
--- a small whole number is a float exactly
-pub in-float : (n : ℕ) → n ≤ 65536 → T (inFloat binary64 (pos n))
-unfolding inFloat
-in-float n h = le→leb n (2 ^ 53) (omega arith)
 
 pub bin-is : (s : List Float) (k : ℕ) → 2 * k + 1 < length s → powerOf (getD s (2 * k) nan) (getD s (2 * k + 1) nan) ≡ binPower s k
 unfolding binPower

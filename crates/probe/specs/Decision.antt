@@ -8,7 +8,8 @@ use lib.IntN.{pos, negsuc}
 use lib.Ieee.{Float, fin, binary64, add, sub, mul, div, lt}
 use Rattle.ieee.specs.Numbers.{whole}
 use Rattle.dsp.specs.Spectrum.{powerOf, binOf}
-use Rattle.probe.specs.Refusals.{lowest, allOf, isFinite, shiftAllowed}
+use Rattle.limits.specs.Refusals.{_⇒_, firstOf}
+use Rattle.probe.specs.Refusals.{allOf, isFinite, shiftAllowed}
 use Rattle.probe.specs.Window.{nothing}
 use Rattle.probe.specs.declared.ProbeAnswer.{ProbeAnswer}
 use Rattle.probe.specs.declared.ProbeAnswer.the-variants.{Yes, No, Refused}
@@ -65,7 +66,7 @@ hasSync spectrum shift =
 
 unfoldable pub probeRefusal : List Float → Float → ℕ
 probeRefusal spectrum shift =
-    lowest ((not (shiftAllowed shift), 3) ∷ (not (eqb (length spectrum) 258), 6) ∷ (not (allOf isFinite spectrum), 8) ∷ [])
+    firstOf ((not (shiftAllowed shift) ⇒ 3) ∷ (not (eqb (length spectrum) 258) ⇒ 6) ∷ (not (allOf isFinite spectrum) ⇒ 8) ∷ [])
 
 -- the answer for a refusal's number, where 0 is none, and a decision
 abbrev pub probeBy : ℕ → Bool → ProbeAnswer

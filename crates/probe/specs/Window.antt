@@ -8,7 +8,8 @@ use lib.Dec.{ltb, eqb}
 use lib.IntN.{pos}
 use lib.Ieee.{Float, fin, binary32, mul}
 use Rattle.dsp.specs.Spectrum.{hann}
-use Rattle.probe.specs.Refusals.{lowest, allOf, inRange}
+use Rattle.limits.specs.Refusals.{_⇒_, firstOf}
+use Rattle.limits.specs.Ranges.{anyUnsound}
 use Rattle.probe.specs.declared.WindowAnswer.{WindowAnswer}
 use Rattle.probe.specs.declared.WindowAnswer.the-variants.{Filled, Refused}
 
@@ -36,7 +37,7 @@ windowOf sound centre = pairsOf (realAt sound centre) 256
 
 unfoldable pub windowRefusal : List Float → ℕ → List Float → ℕ
 windowRefusal sound centre buffer =
-    lowest ((ltb (2 ^ 62) centre, 4) ∷ (not (eqb (length buffer) 512), 5) ∷ (not (allOf inRange sound), 8) ∷ [])
+    firstOf ((ltb (2 ^ 62) centre ⇒ 4) ∷ (not (eqb (length buffer) 512) ⇒ 5) ∷ (anyUnsound sound ⇒ 8) ∷ [])
 
 -- the answer for a refusal's number, where 0 is none
 abbrev pub windowBy : ℕ → WindowAnswer

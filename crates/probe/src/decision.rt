@@ -9,19 +9,19 @@ ghost use Rattle.probe.specs.Decision.{lowBin, highBin, syncBin, binPowe
 fn low_bin(shift: f64) -> usize
     ensures { λ r. ⌜ r ≡ lowBin shift ⌝ }
 {
-    crate::most(dsp::get_bin(1500.0 + shift), 1)
+    limits::max(dsp::get_bin(1500.0 + shift), 1)
 }
 
 fn high_bin(shift: f64) -> usize
     ensures { λ r. ⌜ r ≡ highBin shift ⌝ }
 {
-    crate::least(dsp::get_bin(2300.0 + shift), 127)
+    limits::min(dsp::get_bin(2300.0 + shift), 127)
 }
 
 fn sync_bin(shift: f64) -> usize
     ensures { λ r. ⌜ r ≡ syncBin shift ⌝ }
 {
-    crate::least(crate::most(dsp::get_bin(1200.0 + shift), 1), 127)
+    limits::min(limits::max(dsp::get_bin(1200.0 + shift), 1), 127)
 }
 
 // ---- the powers
@@ -57,7 +57,7 @@ fn video_mean(spectrum: &[f32], lo: usize, hi: usize) -> f64
         return 0.0;
     }
     let p_raw: f64 = video_power(spectrum, lo, hi);
-    let divisor: usize = crate::most(hi - lo, 1);
+    let divisor: usize = limits::max(hi - lo, 1);
     p_raw / (divisor as f64)
 }
 

@@ -4,8 +4,7 @@ pub mod decision;
 pub mod window;
 
 ghost use mathlib.Core.Path.{_≡_};
-ghost use Prim.Native.Nat.{min, max};
-ghost use Rattle.probe.specs.Refusals.{allOf, inRange, isFinite, shiftAllowed};
+ghost use Rattle.probe.specs.Refusals.{allOf, isFinite, shiftAllowed};
 ghost use Rattle.probe.specs.Window.{Windowed};
 ghost use Rattle.probe.specs.Decision.{probeAnswer};
 
@@ -20,25 +19,7 @@ pub enum ProbeAnswer {
     Refused(u8),
 }
 
-fn least(a: usize, b: usize) -> usize
-    ensures { λ r. ⌜ r ≡ min a b ⌝ }
-{
-    if a < b { a } else { b }
-}
-
-fn most(a: usize, b: usize) -> usize
-    ensures { λ r. ⌜ r ≡ max a b ⌝ }
-{
-    if a < b { b } else { a }
-}
-
 // ---- what is refused
-
-fn in_range(x: f32) -> bool
-    ensures { λ r. ⌜ r ≡ inRange x ⌝ }
-{
-    if x >= -1.0 { x <= 1.0 } else { false }
-}
 
 fn is_finite(x: f32) -> bool
     ensures { λ r. ⌜ r ≡ isFinite x ⌝ }
@@ -55,19 +36,6 @@ fn shift_allowed(shift: f64) -> bool
     } else {
         false
     }
-}
-
-fn all_in_range(sound: &[f32]) -> bool
-    ensures { λ r. ⌜ r ≡ allOf inRange (now (sound .entry)) ⌝ }
-{
-    let mut i: usize = 0;
-    while i < sound.len() {
-        if !in_range(sound[i]) {
-            return false;
-        }
-        i += 1;
-    }
-    true
 }
 
 fn all_finite(spectrum: &[f32]) -> bool
@@ -91,13 +59,13 @@ fn all_finite(spectrum: &[f32]) -> bool
 pub fn sync_window(sound: &[f32], centre: u64, buffer: &mut [f32]) -> WindowAnswer
     ensures { λ r. ⌜ Windowed (now (sound .entry)) centre (now (buffer .entry)) r (now (buffer .exit)) ⌝ }
 {
-    if centre > 4611686018427387904 {
+    if centre > limits::MAX_ANCHOR {
         return WindowAnswer::Refused(4);
     }
     if buffer.len() != 512 {
         return WindowAnswer::Refused(5);
     }
-    if !all_in_range(sound) {
+    if limits::any_unsound(sound) {
         return WindowAnswer::Refused(8);
     }
     let weights: [f32; 16] = dsp::hann_16();

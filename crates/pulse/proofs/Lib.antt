@@ -1,7 +1,6 @@
 -- Laws that the proofs of the functions cite.
 pub mod Sums
 pub mod Largest
-pub mod Limits
 pub mod Answers
 pub mod Sorting
 pub mod Columns

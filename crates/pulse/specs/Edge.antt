@@ -5,7 +5,7 @@ use mathlib.Core.List.{List}
 use lib.ListN.{length, getD}
 use lib.Dec.{ltb, eqb}
 use Rattle.pulse.specs.Sums.{sumFrom, largest, firstWith}
-use Rattle.pulse.specs.Limits.{allAtMost}
+use Rattle.limits.specs.Ranges.{allAtMost}
 use Rattle.pulse.specs.declared.EdgeAnswer.{EdgeAnswer}
 use Rattle.pulse.specs.declared.EdgeAnswer.the-variants.{Column, Refused}
 

@@ -8,9 +8,9 @@ ghost use lib.ListN.{length, getD};
 ghost use Rattle.pulse.specs.Sums.{sumFrom, largest, FirstLargest};
 ghost use Rattle.pulse.specs.PulseWindow.{windowSum, bestWindow, betterOf, windowAnswer};
 ghost use Rattle.pulse.specs.Edge.{fourFrom, fallAt, slipped, edgeOf, edgeAnswer};
-ghost use Rattle.pulse.specs.Limits.{allAtMost};
 ghost use Rattle.pulse.specs.Median.{medianOf, countAtMost};
 ghost use Rattle.pulse.specs.Quality.{PulseFits, qualityBy, qualityOf, qualityAnswer};
+ghost use Rattle.limits.specs.Ranges.{allAtMost};
 ghost use Rattle.modespec.specs.Sizes.{pulseColumns};
 use modespec::ModeSpec;
 
@@ -112,19 +112,13 @@ pub fn best_pulse_window(counts: &[u32], width: usize) -> WindowAnswer
 
 // ---- the median
 
-fn larger(a: u32, b: u32) -> u32
-    ensures { λ r. ⌜ r ≡ max a b ⌝ }
-{
-    if a < b { b } else { a }
-}
-
 fn largest_count(counts: &[u32]) -> u32
     ensures { λ r. ⌜ r ≡ largest (λ k. getD (now (counts .entry)) k 0) (length (now (counts .entry))) ⌝ }
 {
     let mut most: u32 = 0;
     let mut i: usize = 0;
     while i < counts.len() {
-        most = larger(most, counts[i]);
+        most = limits::max_u32(most, counts[i]);
         i += 1;
     }
     most

@@ -2,28 +2,14 @@
 // of counts: as they are where c is 0, else as pairs of a count and how often it stands.
 // Operation 0: the best window of width a has the start x and the sum y. Operation 1: the quality in mode a over b lines has
 // the pattern x, or is refused with 9 where b is above 65,536. Operation 2: the falling edge is column x.
-use libc::STDOUT_FILENO;
 use pulse::EdgeAnswer;
 use pulse::QualityAnswer;
 use pulse::WindowAnswer;
 use replay::Long;
+use replay::tally;
+use replay::tally::Tally;
 ghost use Prim.Native.Nat.{_≤_};
 ghost use lib.ListN.{length};
-
-struct Tally {
-    seen: u64,
-    wrong: u64,
-    more: bool,
-}
-
-// The place n after `from`, or `len` where that is nearer.
-fn end_of(from: usize, n: u32, len: usize) -> usize
-    requires { ⌜ from ≤ len ⌝ }
-    ensures { λ r. ⌜ (from ≤ r) × (r ≤ len) ⌝ }
-{
-    let k = n as usize;
-    if k < len - from { from + k } else { len }
-}
 
 // Puts `value` into `out` from place `from` up to place `end`.
 fn repeat(out: &mut [u32], from: usize, end: usize, value: u32)
@@ -44,7 +30,7 @@ fn spread(pairs: &[u8], out: &mut [u32]) -> usize
     let mut at: usize = 0;
     let mut i: usize = 0;
     while i < n {
-        let end = end_of(at, replay::half_word(pairs, 8 * i + 4), out.len());
+        let end = replay::end_of(at, replay::half_word(pairs, 8 * i + 4), out.len());
         repeat(out, at, end, replay::half_word(pairs, 8 * i));
         at = end;
         i += 1;
@@ -125,45 +111,11 @@ fn answered(
     }
 }
 
-fn count(ops: &mut [u64; 3], op: u64) {
-    if op < 3 {
-        let i = op as usize;
-        ops[i] = std::num::wrapping_add_u64(ops[i], 1);
-    }
-}
-
-// The tally after a record.
-fn tallied(t: Tally, ok: bool) -> Tally {
-    let seen = std::num::wrapping_add_u64(t.seen, 1);
-    if ok {
-        Tally {
-            seen: seen,
-            wrong: t.wrong,
-            more: true,
-        }
-    } else {
-        Tally {
-            seen: seen,
-            wrong: std::num::wrapping_add_u64(t.wrong, 1),
-            more: true,
-        }
-    }
-}
-
 // Takes one record. One that is cut short, or longer than the memory for it, is wrong and the last.
-fn one(fd: i32, t: Tally, bytes: &mut [u8], counts: &mut [u32], ops: &mut [u64; 3]) -> Tally {
-    let failed = Tally {
-        seen: std::num::wrapping_add_u64(t.seen, 1),
-        wrong: std::num::wrapping_add_u64(t.wrong, 1),
-        more: false,
-    };
+fn one(fd: i32, t: Tally, bytes: &mut [u8], counts: &mut [u32]) -> Tally {
     match replay::next_long(fd) {
-        Long::End => Tally {
-            seen: t.seen,
-            wrong: t.wrong,
-            more: false,
-        },
-        Long::Cut => failed,
+        Long::End => tally::ended(t),
+        Long::Cut => tally::cut(t),
         Long::Case {
             op,
             a,
@@ -176,56 +128,40 @@ fn one(fd: i32, t: Tally, bytes: &mut [u8], counts: &mut [u32], ops: &mut [u64; 
         } => {
             let size: usize = n as usize;
             if size > bytes.len() {
-                return failed;
+                return tally::cut(t);
             }
-            count(ops, op);
-            tallied(
+            tally::counted(
                 t,
+                op,
                 answered(fd, op, a, b, c, x, y, &mut bytes[..size], counts),
             )
         }
     }
 }
 
-fn all(fd: i32, bytes: &mut [u8], counts: &mut [u32], ops: &mut [u64; 3]) -> Tally {
-    let mut t = Tally {
-        seen: 0,
-        wrong: 0,
-        more: true,
-    };
+fn all(fd: i32, bytes: &mut [u8], counts: &mut [u32]) -> Tally {
+    let mut t = tally::start();
     let mut turns = u64::MAX;
     while turns > 0 && t.more {
-        t = one(fd, t, bytes, counts, ops);
+        t = one(fd, t, bytes, counts);
         turns -= 1;
     }
     t
 }
 
-// How many of one operation there were, on a line.
-fn line(name: &[u8], n: u64) {
-    io::write_all(STDOUT_FILENO, name);
-    io::write_all(STDOUT_FILENO, b" ");
-    io::print_decimal(STDOUT_FILENO, n);
-    io::write_all(STDOUT_FILENO, b"\n");
+// Arrays of these lengths are lent as such, and go on as slices from here.
+fn replayed(fd: i32, bytes: &mut [u8; 262144], counts: &mut [u32; 65536]) -> Tally {
+    all(fd, bytes, counts)
 }
 
 fn main() {
-    let path = b"vectors";
-    let fd = os::open_read(path);
+    let fd = replay::opened(b"vectors");
     if fd < 0 {
-        os::fail(path);
         return;
     }
     let mut bytes = [0u8; 262144];
     let mut counts = [0u32; 65536];
-    let mut ops = [0u64; 3];
-    let t = all(fd, &mut bytes, &mut counts, &mut ops);
+    let t = replayed(fd, &mut bytes, &mut counts);
     libc::close(fd);
-    line(b"best_pulse_window", ops[0]);
-    line(b"sync_quality", ops[1]);
-    line(b"falling_edge_from_x_acc", ops[2]);
-    io::print_decimal(STDOUT_FILENO, t.seen);
-    io::write_all(STDOUT_FILENO, b" vectors, ");
-    io::print_decimal(STDOUT_FILENO, t.wrong);
-    io::write_all(STDOUT_FILENO, b" wrong\n");
+    tally::report(b"best_pulse_window sync_quality falling_edge_from_x_acc", t);
 }

@@ -6,7 +6,7 @@ use native.Mathlib.Numerals.{add-one}
 use native.Mathlib.Omega.{arith}
 use lib.ListN.{length, take, drop, set, length-append, length-drop}
 use lib.Seq.{drop-cons, drop-length, set-at}
-use Rattle.replay.specs.Words.{each}
+use Rattle.replay.specs.Each.{each}
 
 pub length-each : {A : Type 0} (f : ℕ → A) (n : ℕ) → length (each f n) ≡ n
 unfolding each

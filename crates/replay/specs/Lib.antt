@@ -1,2 +1,2 @@
--- What the readers of vector files compute. Definitions only.
-pub mod Words
+-- Lists that are filled. Definitions only.
+pub mod Each

@@ -1,5 +1,7 @@
 // What a vector program counts, and the lines that it writes. A record that the file does not hold whole is wrong, and the last.
 use libc::STDOUT_FILENO;
+ghost use Prim.Native.Nat.{_≤_};
+ghost use lib.ListN.{length};
 
 // The records seen, those that are wrong, those of each operation, and whether there may be more.
 pub struct Tally {
@@ -80,15 +82,47 @@ pub fn cut(t: Tally) -> Tally {
 }
 
 // How many of one operation there were, on a line.
-pub fn line(name: &[u8], n: u64) {
+fn line(name: &[u8], n: u64) {
     io::write_all(STDOUT_FILENO, name);
     io::write_all(STDOUT_FILENO, b" ");
     io::print_decimal(STDOUT_FILENO, n);
     io::write_all(STDOUT_FILENO, b"\n");
 }
 
-// How many records there were and how many are wrong, on a line.
-pub fn last_line(t: Tally) {
+// The place of the first space from place `from` on, or the end.
+fn space(names: &[u8], from: usize) -> usize
+    requires { ⌜ from ≤ length (now names) ⌝ }
+    ensures { λ r. ⌜ (from ≤ r) × (r ≤ length (now (names .entry))) ⌝ }
+{
+    let mut at = from;
+    while at < names.len() {
+        if names[at] == b' ' {
+            return at;
+        }
+        at += 1;
+    }
+    at
+}
+
+// A line for each of the operations named, with a space between two names.
+fn lines(names: &[u8], ops: [u64; 12]) {
+    let mut from = 0;
+    let mut i = 0;
+    while i < 12 {
+        if from >= names.len() {
+            return;
+        }
+        let end = space(names, from);
+        line(&names[from..end], ops[i]);
+        from = end + 1;
+        i += 1;
+    }
+}
+
+// What a program writes: how many of each operation named there were, how many records, and how many of these are wrong.
+pub fn report(names: &[u8], t: Tally) {
+    let ops = t.ops;
+    lines(names, ops);
     io::print_decimal(STDOUT_FILENO, t.seen);
     io::write_all(STDOUT_FILENO, b" vectors, ");
     io::print_decimal(STDOUT_FILENO, t.wrong);

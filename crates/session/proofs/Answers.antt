@@ -1,20 +1,19 @@
 -- The calls' answers, against those of the plain session.
 -- Assumes nothing.
-use mathlib.Core.Path.{_≡_, refl, sym, _∙_, ap, subst}
-use mathlib.Core.Bool.{Bool, true, false, cond, not, _&&_}
-use mathlib.Core.List.{List, [], _∷_, _++_}
-use Prim.Native.Nat.{ℕ, _+_, _-_, _*_, _%_, _≤_, _<_, _^_}
+use mathlib.Core.Path.{_≡_, refl, _∙_, ap, subst}
+use mathlib.Core.List.{List}
+use Prim.Native.Nat.{ℕ, _+_, _-_, _%_, _≤_, _^_}
 use native.Mathlib.Omega.{arith}
-use lib.ListN.{length, take}
+use lib.ListN.{length}
 use lib.Seq.{length-take-le}
 use lib.Ieee.{Float}
 use Rattle.plain.specs.declared.Phase.{Phase}
 use Rattle.plain.specs.declared.Phase.the-variants.{Searching, Collecting, Reported, Unfound, CutShort}
 use Rattle.plain.specs.Plain.{Plain}
-use Rattle.plain.specs.Calls.{Answer, answer, read}
+use Rattle.plain.specs.Calls.{answer, read}
 use Rattle.session.specs.declared.Session.{Session}
 use Rattle.session.specs.declared.Given.{Given}
-use Rattle.session.specs.Hold.{plainOf, Sane, Holds, positionOf, ReadMeets, givenBy, givenOf}
+use Rattle.session.specs.Hold.{plainOf, positionOf, ReadMeets, givenBy, givenOf}
 
 -- ---- read
 

@@ -1,30 +1,21 @@
 -- A chunk: stored, then asked for evaluation, report and end.
 -- Assumes nothing.
-use mathlib.Core.Path.{_≡_, refl, sym, _∙_, ap, ap₂}
-use mathlib.Core.Bool.{Bool, true, false, cond}
+use mathlib.Core.Path.{_≡_, refl, sym, _∙_, ap}
+use mathlib.Core.Bool.{true, false}
 use mathlib.Core.List.{List, _++_}
 use Prim.Native.Nat.{ℕ, _+_, _-_, _*_, _≤_, _<_, _^_}
 use native.Mathlib.Omega.{arith}
 use lib.ListN.{length, take, drop}
 use lib.Seq.{paste, length-paste, take-paste, take-length}
 use lib.Ieee.{Float}
-use Rattle.sync_start.specs.Evaluate.{robot}
-use Rattle.plain.specs.declared.Phase.{Phase}
-use Rattle.plain.specs.declared.Phase.the-variants.{Searching, Collecting, Reported, Unfound, CutShort}
-use Rattle.plain.specs.Plain.{Plain, endedPhase, evaluating, reporting, ending, events, joined}
+use Rattle.modespec.specs.Sizes.{robot}
+use Rattle.plain.specs.Plain.{Plain, endedPhase, reporting, ending, events, joined}
 use Rattle.plain.proofs.Laws.{evaluating-live}
 use Rattle.session.specs.declared.Session.{Session}
-use Rattle.session.specs.Hold.{setupOf, plainOf, Known, positionOf, Sane, keptAt, workAfter}
-use Rattle.session.specs.Steps.{Kept, Judged, Finished, Closed, Turned}
-use Rattle.session.proofs.Lists.{put-tail}
-use Rattle.session.proofs.Steps.{false-true}
-
-pub live-work : (h : Phase) (n : ℕ) (w : List ℕ) → endedPhase h ≡ false → workAfter h n w ≡ w
-live-work Searching n w e = refl
-live-work (Collecting s) n w e = refl
-live-work (Reported s r) n w e = absurd (false-true (sym e))
-live-work Unfound n w e = refl
-live-work (CutShort s) n w e = refl
+use Rattle.session.specs.Hold.{setupOf, plainOf, Known, positionOf, Sane, keptAt}
+use Rattle.session.specs.Steps.{Judged, Finished, Closed, Turned}
+use Rattle.session_parts.proofs.Lists.{put-tail}
+use Rattle.session_parts.proofs.Kept.{known-more}
 
 abbrev pub grown : Session → ℕ → Session
 grown s n =
@@ -37,31 +28,6 @@ grown s n =
       streak = s .streak;
       phase = s .phase;
     }
-
--- ---- the sample store
-
--- the samples known after a piece are in the store, too
-pub known-more : (m t n : ℕ) (sm ys known : List Float) → (robot m ≡ true → known ≡ take (4 * t + 4) sm)
-    → (robot m ≡ true → 4 * t + 4 + length ys ≤ length sm) → length ys ≡ 4 * n
-    → robot m ≡ true → known ++ ys ≡ take (4 * (t + n) + 4) (keptAt m (4 * t + 4) ys (length ys) sm)
-known-more m t n sm ys known h wide size r =
-    let w : 4 * t + 4 + length ys ≤ length sm = wide r in
-    let place : 4 * (t + n) + 4 ≡ 4 * t + 4 + length ys = omega arith in
-    let stored : keptAt m (4 * t + 4) ys (length ys) sm ≡ paste sm (4 * t + 4) ys (length ys) =
-    ap (λ (b : Bool). cond b (paste sm (4 * t + 4) ys (length ys)) sm) r in
-    sym
-    (ap₂ (λ (i : ℕ) (l : List Float). take i l) place stored
-    ∙ take-paste sm (4 * t + 4) ys (length ys) (omega arith) (omega arith)
-    ∙ ap₂ (λ (a b : List Float). a ++ b) (sym (h r)) (take-length ys))
-
--- the store keeps its length
-pub kept-length : (m at : ℕ) (sm ys : List Float) (n : ℕ) → (robot m ≡ true → at + n ≤ length sm) → n ≤ length ys
-    → length (keptAt m at ys n sm) ≡ length sm
-kept-length m at sm ys n wide le = go (robot m) refl
-  where
-    go : (b : Bool) → robot m ≡ b → length (cond b (paste sm at ys n) sm) ≡ length sm
-    go true r = length-paste sm at ys n (wide r) le
-    go false r = refl
 
 -- ---- the whole chunk
 

@@ -2,20 +2,20 @@
 -- and two lists with the same flags taken and the same parity samples end in the same point, less the anchors.
 -- Assumes nothing.
 use mathlib.Core.Path.{_≡_, refl, sym, _∙_, ap, ap₂}
-use mathlib.Core.List.{List, [], _∷_, List·Memᴰ}
-use Prim.Native.Nat.{ℕ, _≤_}
+use mathlib.Core.List.{List, _∷_, List·Memᴰ}
+use Prim.Native.Nat.{ℕ}
 use native.Mathlib.Omega.{arith}
 use lib.ListN.{length, take, getD}
 use lib.Seq.{length-take-le}
 use lib.Ieee.{Float}
 use Rattle.plain.specs.Plain.{Plain, opened}
-use Rattle.plain.specs.Point.{Point, pointOf, pointLess}
-use Rattle.plain.specs.Calls.{Call, feed, read, Answer, answer, answers, after, runTo, openCode}
+use Rattle.plain.specs.Point.{pointOf, pointLess}
+use Rattle.plain.specs.Calls.{Call, Answer, answers, after, runTo}
 use Rattle.plain.specs.Lists.{flagsTaken, listReads}
 use Rattle.plain.proofs.TwoLists.{two-lists, silence}
 use Rattle.session.specs.declared.Session.{Session}
 use Rattle.session.specs.declared.Opened.the-variants as op
-use Rattle.session.specs.Hold.{plainOf, Holds, FeedMeets, ReadMeets, OpenMeets, answerOf, givenOf, nextOf, feedCall, setup, sessionPoint}
+use Rattle.session.specs.Hold.{plainOf, Holds, OpenMeets, feedCall, setup, sessionPoint}
 use Rattle.session.specs.Trace.{Trace, done, fed, gave}
 use Rattle.session.proofs.Rooms.{open-room}
 

@@ -1,25 +1,24 @@
 -- The answers of a feed, against those of the plain session.
 -- Assumes nothing.
 use mathlib.Core.Path.{_≡_, refl, sym, _∙_, ap, subst}
-use mathlib.Core.Bool.{Bool, true, false, cond, not, _&&_}
-use mathlib.Core.List.{List, [], _∷_, _++_}
+use mathlib.Core.Bool.{true, false}
+use mathlib.Core.List.{List, _++_}
 use Prim.Native.Nat.{ℕ, _+_, _-_, _*_, _≤_, _<_}
 use native.Mathlib.Omega.{arith}
 use lib.ListN.{length, take, getD}
 use lib.Seq.{length-take-le, paste, paste-zero, length-paste, take-paste, getD-take, getD-append-add}
-use lib.Dec.{eqb, ltb}
+use lib.Dec.{eqb}
 use lib.Ieee.{Float}
-use borrow.Author.Tests.{eqb-true, eqb-false, ltb-false, ne-eqb, not-false}
-use Rattle.sync_start.specs.Evaluate.{robot}
-use Rattle.plain.specs.declared.Phase.{Phase}
-use Rattle.plain.specs.Plain.{Setup, Plain, endedPhase, through}
-use Rattle.plain.specs.Calls.{Lengths, Answer, took, refused, answer, after, feedCode, memoryCode, soundCode, orderCode, orElse, shortSamples}
-use Rattle.plain.specs.Refusals.{anyAbove, anyUnsound}
+use borrow.Author.Tests.{ne-eqb}
+use Rattle.modespec.specs.Sizes.{robot}
+use Rattle.plain.specs.Plain.{Plain, endedPhase, through}
+use Rattle.plain.specs.Calls.{took, answer, after, feedCode}
 use Rattle.session.specs.declared.Session.{Session}
 use Rattle.session.specs.declared.Fed.the-variants as fed
-use Rattle.session.specs.Hold.{setupOf, lengths, plainOf, Sane, Holds, keptAt, FeedMeets, feedCall}
+use Rattle.session.specs.Hold.{setupOf, lengths, plainOf, Sane, Holds, FeedMeets, feedCall}
 use Rattle.session.specs.Steps.{Ran}
-use Rattle.session.proofs.Chunk.{live-work, kept-length}
+use Rattle.session_parts.proofs.Kept.{kept-length, kept-none}
+use Rattle.session.proofs.Steps.{live-work}
 use Rattle.plain.proofs.Codes.{code-parts, room-of-memory, room-of-sound}
 use Rattle.session.proofs.Loop.{Room}
 
@@ -48,13 +47,6 @@ module _ (s : Session) (st : List ℕ) (sm : List Float) (im vo fl : List ℕ) (
   code-plain p h =
       ap (λ (q : Plain). feedCode (q .setup) (q .phase) (lengths (length st) (length sm) (length im) (length vo)) fl ys) (sym (h .same))
 
-  kept-none : (at : ℕ) → sm ≡ keptAt (s .mode) at ys 0 sm
-  kept-none at = go (robot (s .mode))
-    where
-      go : (b : Bool) → sm ≡ cond b (paste sm at ys 0) sm
-      go true = paste-zero sm at ys
-      go false = refl
-
   pub feed-refused : (k : ℕ) → k ≡ codeOf → (k ≡ 0 → ⊥) → FeedMeets s st sm im vo fl ys (fed.Refused k) st sm im vo
   feed-refused k code some =
       let pos : eqb k 0 ≡ false = ne-eqb k 0 some in
@@ -62,7 +54,7 @@ module _ (s : Session) (st : List ℕ) (sm : List Float) (im vo fl : List ℕ) (
         count = omega arith;
         room = λ h. absurd (omega arith);
         stored = paste-zero st (s .taken) fl;
-        sampled = kept-none (4 * s .taken + 4);
+        sampled = kept-none (s .mode) (4 * s .taken + 4) sm ys;
         image = refl;
         counts = refl;
         plain = λ p h. (rw (code-plain p h ∙ sym code, pos), rw (code-plain p h ∙ sym code, pos) h);
@@ -75,7 +67,7 @@ module _ (s : Session) (st : List ℕ) (sm : List Float) (im vo fl : List ℕ) (
         count = omega arith;
         room = λ h. absurd (omega arith);
         stored = paste-zero st (s .taken) fl;
-        sampled = kept-none (4 * s .taken + 4);
+        sampled = kept-none (s .mode) (4 * s .taken + 4) sm ys;
         image = sym (live-work (s .phase) 441000 im live);
         counts = sym (live-work (s .phase) 144000 vo live);
         plain = λ p h. absurd (strange (h .sane));

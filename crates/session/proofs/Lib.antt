@@ -1,10 +1,7 @@
 -- Laws that the proofs of the session's functions cite, and demand 3.
-mod Lists
-mod Sound
 mod Steps
 mod Chunk
 mod Answers
-mod Codes
 mod Loop
 mod Feed
 mod Rooms

@@ -1,25 +1,25 @@
 -- A piece, chunk by chunk.
 -- Assumes nothing.
 use mathlib.Core.Path.{_≡_, refl, sym, _∙_, ap, ap₂, subst}
-use mathlib.Core.Bool.{Bool, true, false, cond}
+use mathlib.Core.Bool.{true, false}
 use mathlib.Core.List.{List, [], _++_, append-assoc, append-nil}
 use Prim.Native.Nat.{ℕ, _+_, _-_, _*_, _≤_, _<_}
 use native.Mathlib.Omega.{arith}
-use lib.ListN.{length, take, drop, length-take, length-drop, take-append-drop}
+use lib.ListN.{length, take, drop, take-append-drop}
 use lib.Seq.{length-take-le, paste, paste-zero, length-paste, take-all, take-add}
 use lib.Ieee.{Float}
-use Rattle.hough.specs.Memory.{cleared}
 use Rattle.hough.proofs.Memory.{cleared-length}
-use Rattle.sync_start.specs.Evaluate.{robot}
+use Rattle.modespec.specs.Sizes.{robot}
 use Rattle.plain.specs.declared.Phase.{Phase}
 use Rattle.plain.specs.declared.Phase.the-variants.{Searching, Collecting, Reported, Unfound, CutShort}
-use Rattle.plain.specs.Plain.{Plain, endedPhase, events, joined, through}
+use Rattle.plain.specs.Plain.{Plain, endedPhase, through}
 use Rattle.plain.proofs.Laws.{through-append, through-ended, through-nil, chunk-any}
 use Rattle.session.specs.declared.Session.{Session}
-use Rattle.session.specs.Hold.{setupOf, plainOf, Known, Sane, keptAt, workAfter}
+use Rattle.session.specs.Hold.{plainOf, Known, Sane, keptAt, workAfter}
 use Rattle.session.specs.Steps.{Gap, Turned, Ran}
-use Rattle.session.proofs.Lists.{paste-more, piece-length}
-use Rattle.session.proofs.Chunk.{live-work, kept-length}
+use Rattle.session_parts.proofs.Lists.{paste-more, piece-length}
+use Rattle.session_parts.proofs.Kept.{kept-length, kept-none, kept-more}
+use Rattle.session.proofs.Steps.{live-work}
 
 -- what a run is given
 pub record Room (s : Session) (st : List ℕ) (sm : List Float) (im vo fl : List ℕ) (ys : List Float) : Type 0 where
@@ -81,13 +81,6 @@ module _
 
 -- ---- nothing taken yet
 
-kept-none : (m at : ℕ) (sm ys : List Float) → sm ≡ keptAt m at ys 0 sm
-kept-none m at sm ys = go (robot m)
-  where
-    go : (b : Bool) → sm ≡ cond b (paste sm at ys 0) sm
-    go true = paste-zero sm at ys
-    go false = refl
-
 pub part-none : (s : Session) (st : List ℕ) (sm : List Float) (im vo fl : List ℕ) (ys : List Float)
     → Sane s → endedPhase (s .phase) ≡ false → Room s st sm im vo fl ys → Part s st sm im vo fl ys 0 s st sm im vo
 part-none s st sm im vo fl ys sane live given =
@@ -113,23 +106,6 @@ part-none s st sm im vo fl ys sane live given =
 
 four-more : (i n : ℕ) → 4 * (i + n) ≡ 4 * i + 4 * n
 four-more i n = omega arith
-
-kept-more : (m t i n : ℕ) (sm ys p : List Float) → (robot m ≡ true → 4 * t + 4 + 4 * i + 4 * n ≤ length sm) → 4 * i + 4 * n ≤ length ys
-    → p ≡ take (4 * n) (drop (4 * i) ys) → length p ≡ 4 * n
-    → keptAt m (4 * (t + i) + 4) p (length p) (keptAt m (4 * t + 4) ys (4 * i) sm) ≡ keptAt m (4 * t + 4) ys (4 * (i + n)) sm
-kept-more m t i n sm ys p wide le hp hn = go (robot m) refl
-  where
-    at : 4 * (t + i) + 4 ≡ 4 * t + 4 + 4 * i
-    at = omega arith
-
-    go : (b : Bool) → robot m ≡ b
-        → cond b (paste (cond b (paste sm (4 * t + 4) ys (4 * i)) sm) (4 * (t + i) + 4) p (length p)) (cond b (paste sm (4 * t + 4) ys (4 * i)) sm)
-        ≡ cond b (paste sm (4 * t + 4) ys (4 * (i + n))) sm
-    go true r =
-        ap (λ (k : ℕ). paste (paste sm (4 * t + 4) ys (4 * i)) k p (length p)) at
-        ∙ paste-more sm ys (4 * t + 4) (4 * i) (4 * n) p (wide r) le hp hn
-        ∙ ap (λ (k : ℕ). paste sm (4 * t + 4) ys k) (sym (four-more i n))
-    go false r = refl
 
 -- the samples of i flags, and those of n more
 samples-more : (known ys p : List Float) (i n : ℕ) → p ≡ take (4 * n) (drop (4 * i) ys)

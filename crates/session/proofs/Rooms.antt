@@ -1,8 +1,8 @@
 -- What the callees of a session's steps require of the places that they are lent.
 -- Assumes nothing.
 use mathlib.Core.Path.{_≡_, refl, sym, _∙_, ap}
-use mathlib.Core.Bool.{Bool, true, false, cond, not, _&&_}
-use mathlib.Core.List.{List, [], _∷_, _++_}
+use mathlib.Core.Bool.{Bool, true, cond, not}
+use mathlib.Core.List.{List}
 use Prim.Native.Nat.{ℕ, _+_, _-_, _*_, _/_, _%_, _≤_, _<_, _^_}
 use native.Mathlib.Nat.{sub-zero}
 use native.Mathlib.Omega.{arith}
@@ -13,16 +13,15 @@ use lib.Ieee.{Float}
 use borrow.Author.Tests.{eqb-true, ltb-false, not-false}
 use Rattle.modespec.specs.ModeSpec.{specOf}
 use Rattle.modespec.specs.Sizes.{windowProbes}
-use Rattle.sync_start.specs.Evaluate.{robot}
-use Rattle.plain.specs.Plain.{windowOf, pictureOf, opened}
+use Rattle.modespec.specs.Sizes.{robot}
+use Rattle.plain.specs.Plain.{windowOf, pictureOf}
 use Rattle.plain.specs.declared.Phase.the-variants.{Searching}
-use Rattle.plain.specs.Refusals.{anyUnsound}
 use Rattle.plain.specs.Calls.{openCode, shortSamples}
-use Rattle.session.specs.declared.Session.{Session}
 use Rattle.session.specs.declared.Opened.the-variants as op
-use Rattle.session.specs.Hold.{setup, Holds, Sane, keptAt, OpenMeets}
-use Rattle.session.proofs.Steps.{known-fits}
-use Rattle.plain.proofs.Codes.{none, and-false}
+use Rattle.session.specs.Hold.{setup, keptAt, OpenMeets}
+use Rattle.session_parts.proofs.Kept.{known-fits}
+use Rattle.limits.proofs.Causes.{none}
+use Rattle.plain.proofs.Codes.{and-false}
 
 -- ---- an evaluation
 

@@ -1,64 +1,44 @@
 -- What each step of a session does to the plain session that it stands for.
 -- Assumes nothing.
-use mathlib.Core.Path.{_≡_, refl, sym, _∙_, ap, subst}
-use mathlib.Core.Bool.{Bool, true, false, cond, _||_, _&&_}
-use mathlib.Core.List.{List, [], _∷_, _++_}
-use Prim.Native.Nat.{ℕ, _+_, _-_, _*_, _/_, _%_, _≤_, _<_, _^_}
+use mathlib.Core.Path.{_≡_, refl, sym, _∙_, ap, subst⁻¹}
+use mathlib.Core.Bool.{Bool, true, false, false≢true, cond}
+use mathlib.Core.List.{List, [], _∷_}
+use Prim.Native.Nat.{ℕ, _+_, _-_, _*_, _/_, _≤_, _<_, _^_}
 use native.Mathlib.Omega.{arith}
 use lib.ListN.{length, take, drop}
 use lib.Seq.{length-take-le, take-take}
-use lib.Dec.{leb, ltb, eqb}
+use lib.Dec.{eqb}
 use lib.Ieee.{Float}
-use borrow.Author.Tests.{lt-leb, le-leb, leb-true, leb-false, lt-ltb, le-ltb, eq-eqb, ne-eqb}
+use types.Run.{OneOf, miss}
+use denote.Enum.Declared.{tagOf}
+use borrow.Author.Tests.{eq-eqb, ne-eqb}
 use Rattle.modespec.specs.ModeSpec.{specOf}
-use Rattle.modespec.specs.Sizes.{workingRate}
 use Rattle.hough.specs.Memory.{cleared}
 use Rattle.sync.specs.declared.SyncResult.{SyncResult}
 use Rattle.sync.specs.FindSync.{syncResultOf}
 use Rattle.sync_start.specs.declared.Located.{Located}
 use Rattle.sync_start.specs.declared.Located.the-variants.{Nowhere, At}
 use Rattle.sync_start.specs.declared.Evaluation.{Evaluation}
-use Rattle.sync_start.specs.Evaluate.{evaluationOf, robot}
+use Rattle.modespec.specs.Sizes.{robot, workingRate}
+use Rattle.sync_start.specs.Evaluate.{evaluationOf}
 use Rattle.sync_start.proofs.Evaluations.{streak-step, other-modes, position-small}
 use Rattle.plain.specs.declared.Start.{Start}
 use Rattle.plain.specs.declared.Phase.{Phase}
 use Rattle.plain.specs.declared.Phase.the-variants.{Searching, Collecting, Reported, Unfound, CutShort}
-use Rattle.plain.specs.Plain.{Setup, Plain, windowOf, pictureOf, endedPhase, dueAt, fullAt, flagOf, foundPhase, stirAt, evaluating, reporting, ending, endOf}
+use Rattle.plain.proofs.Phase as phase
+use Rattle.plain.specs.Plain.{Plain, evaluatingBy, reportingBy, Setup, windowOf, pictureOf, endedPhase, dueAt, fullAt, flagOf, foundPhase, stirAt, evaluating, reporting, ending, endOf}
 use Rattle.session.specs.declared.Session.{Session}
-use Rattle.session.specs.Hold.{setupOf, plainOf, Known, positionOf, Sane, workAfter}
-use Rattle.session.specs.Steps.{DueIn, Gap, Kept, Judged, Finished, Closed, SaneTest}
-use Rattle.session.proofs.Lists.{drop-take}
-
-pub false-true : _≡_ {A = Bool} false true → ⊥
-false-true e = let z : _≡_ {A = ℕ} 0 1 = cc in omega arith
-
--- a store is below 4 × capacity + 4 where a quarter of it is at most the capacity
-pub quarter : (s c : ℕ) → leb (s / 4) c ≡ ltb s (4 * c + 4)
-quarter s c = go (leb (s / 4) c) refl
-  where
-    go : (t : Bool) → leb (s / 4) c ≡ t → t ≡ ltb s (4 * c + 4)
-    go true e = let k = leb-true (s / 4) c e in sym (lt-ltb s (4 * c + 4) (omega arith))
-    go false e = let k = leb-false (s / 4) c e in sym (le-ltb s (4 * c + 4) (omega arith))
+use Rattle.session.specs.Hold.{setupOf, plainOf, positionOf, Sane, workAfter}
+use Rattle.session_parts.specs.Phases.{DueIn}
+use Rattle.session.specs.Steps.{Gap, inPhase, Kept, Judged, Finished, Closed, SaneTest}
+use Rattle.plain.proofs.Lists.{drop-take}
 
 -- ---- a record that no session handed back
 
 pub strange : (s : Session) → (endedPhase (s .phase) ≡ false → Sane s → ⊥) → SaneTest s false
-strange s h = record { yes = λ e. absurd (false-true e); no = λ _ l k. h l k }
+strange s h = record { yes = λ e. absurd (false≢true e); no = λ _ l k. h l k }
 
 -- ---- the next event
-
-pub due-first : (mode taken w : ℕ) → w ≡ windowOf mode → taken < w → DueIn mode taken (w - taken)
-due-first mode taken w e h =
-    record { some = omega arith; none = λ k lo hi. rw (lt-leb (windowOf mode) k (omega arith)) }
-
-pub due-later : (mode taken w : ℕ) → w ≡ windowOf mode → w ≤ taken → DueIn mode taken (64 - (taken - w) % 64)
-due-later mode taken w e h =
-    record {
-      some = omega arith;
-      none = λ k lo hi.
-          let no : (k - windowOf mode) % 64 ≡ 0 → ⊥ = omega arith in
-          rw (le-leb (windowOf mode) k (omega arith), ne-eqb ((k - windowOf mode) % 64) 0 no);
-    }
 
 pub gap-search : (s : Session) (due r : ℕ) → s .phase ≡ Searching → DueIn (s .mode) (s .taken) due → 0 < r → r ≤ due → s .taken + r ≤ s .capacity → Gap s r
 gap-search s due r e d some le fits =
@@ -82,8 +62,8 @@ gap-collect s x r e some fits calm =
     }
 
 stir-ended : (h : Phase) (u : Setup) (k : ℕ) → endedPhase h ≡ true → stirAt h u k ≡ eqb k (u .capacity)
-stir-ended Searching u k e = absurd (false-true e)
-stir-ended (Collecting s) u k e = absurd (false-true e)
+stir-ended Searching u k e = absurd (false≢true e)
+stir-ended (Collecting s) u k e = absurd (false≢true e)
 stir-ended (Reported s r) u k e = refl
 stir-ended Unfound u k e = refl
 stir-ended (CutShort s) u k e = refl
@@ -103,10 +83,23 @@ gap-ended s r e some fits =
 pub same-fields : (s : Session) → Kept s s
 same-fields s = record { mode = refl; anchor = refl; capacity = refl; taken = refl }
 
-pub judge-idle : (s : Session) (st : List ℕ) (sm : List Float) → s .streak ≤ s .evaluations
+judge-idle : (s : Session) (st : List ℕ) (sm : List Float) → s .streak ≤ s .evaluations
     → ((known : List Float) → evaluating (plainOf s st known) ≡ plainOf s st known) → Judged s st sm s
 judge-idle s st sm h e =
     record { kept = same-fields s; plain = λ known _. sym (e known); evaluations = omega arith; streak = h; near = λ n. n }
+
+not-searching : (h : Phase) → OneOf (1 ∷ 2 ∷ 3 ∷ 4 ∷ []) (tagOf phase.the-type h) → (p : Plain) → evaluatingBy h p ≡ p
+not-searching Searching k p = absurd (miss (1 ∷ 2 ∷ 3 ∷ 4 ∷ []) 0 tt k)
+not-searching (Collecting x) k p = refl
+not-searching (Reported x r) k p = refl
+not-searching Unfound k p = refl
+not-searching (CutShort x) k p = refl
+
+-- a session that is not searching is left as it is
+pub judge-other : (s : Session) (st : List ℕ) (sm : List Float) → s .streak ≤ s .evaluations
+    → OneOf (1 ∷ 2 ∷ 3 ∷ 4 ∷ []) (tagOf phase.the-type (s .phase)) → Judged s st sm s
+unfolding evaluating
+judge-other s st sm h k = judge-idle s st sm h (λ known. not-searching (s .phase) k (plainOf s st known))
 
 pub search-idle : (s : Session) (st : List ℕ) (sm : List Float) → s .phase ≡ Searching → s .taken ≤ length st → s .streak ≤ s .evaluations
     → dueAt (s .mode) (s .taken) ≡ false → Judged s st sm s
@@ -152,30 +145,57 @@ search-done s st sm made next k j e low fits small h due hj hk hm hn =
 
 -- ---- the report
 
+-- only a report changes the work memory
+pub live-work : (h : Phase) (n : ℕ) (w : List ℕ) → endedPhase h ≡ false → workAfter h n w ≡ w
+live-work Searching n w e = refl
+live-work (Collecting s) n w e = refl
+live-work (Reported s r) n w e = absurd (false≢true (sym e))
+live-work Unfound n w e = refl
+live-work (CutShort s) n w e = refl
+
 pub finish-idle : (s : Session) (st im vo : List ℕ) → ((known : List Float) → reporting (plainOf s st known) ≡ plainOf s st known)
-    → (endedPhase (s .phase) ≡ false → (n : ℕ) (w : List ℕ) → w ≡ workAfter (s .phase) n w) → Finished s st im vo s im vo
-finish-idle s st im vo e m =
+    → Finished s st im vo s im vo
+finish-idle s st im vo e =
     record {
       kept = same-fields s;
       plain = λ known. sym (e known);
       evaluations = refl;
       streak = refl;
       near = refl;
-      image = λ l. m l 441000 im;
-      counts = λ l. m l 144000 vo;
+      image = λ l. sym (live-work (s .phase) 441000 im l);
+      counts = λ l. sym (live-work (s .phase) 144000 vo l);
     }
 
-pub collect-done : (s : Session) (x : Start) (st im vo seen im' vo' : List ℕ) (r : SyncResult) (f t : ℕ)
-    → s .phase ≡ Collecting x → s .taken ≤ length st → s .taken ≡ t → t ≡ fullAt (s .mode) x → f ≡ flagOf x
-    → seen ≡ take (t - f) (drop f st) → r ≡ syncResultOf (specOf (s .mode)) workingRate seen
-    → im' ≡ cleared 441000 im → vo' ≡ cleared 144000 vo
-    → Finished s st im vo (record { mode = s .mode; anchor = s .anchor; capacity = s .capacity; taken = s .taken; evaluations = s .evaluations; streak = s .streak; phase = Reported x r }) im' vo'
+not-collecting : (h : Phase) → OneOf (0 ∷ 2 ∷ 3 ∷ 4 ∷ []) (tagOf phase.the-type h) → (p : Plain) → reportingBy h p ≡ p
+not-collecting Searching k p = refl
+not-collecting (Collecting x) k p = absurd (miss (0 ∷ 2 ∷ 3 ∷ 4 ∷ []) 1 tt k)
+not-collecting (Reported x r) k p = refl
+not-collecting Unfound k p = refl
+not-collecting (CutShort x) k p = refl
+
+-- a session that is not collecting is left as it is
+pub finish-other : (s : Session) (st im vo : List ℕ) → OneOf (0 ∷ 2 ∷ 3 ∷ 4 ∷ []) (tagOf phase.the-type (s .phase)) → Finished s st im vo s im vo
 unfolding reporting
-collect-done s x st im vo seen im' vo' r f t e fits at full hf hs hr hi hv =
+finish-other s st im vo k = finish-idle s st im vo (λ known. not-collecting (s .phase) k (plainOf s st known))
+
+pub collect-idle : (s : Session) (x : Start) (st im vo : List ℕ) → s .phase ≡ Collecting x → s .taken ≤ length st
+    → (s .taken ≡ fullAt (s .mode) x → ⊥) → Finished s st im vo s im vo
+unfolding reporting
+collect-idle s x st im vo e fits before =
+    finish-idle s st im vo (λ known. rw (e, length-take-le (s .taken) st fits, ne-eqb (s .taken) (fullAt (s .mode) x) before))
+
+pub collect-done : (s : Session) (x : Start) (st im vo im' vo' : List ℕ) (r : SyncResult) (f t : ℕ) (z : Session)
+    → s .phase ≡ Collecting x → s .taken ≤ length st → s .taken ≡ t → t ≡ fullAt (s .mode) x → f ≡ flagOf x
+    → r ≡ syncResultOf (specOf (s .mode)) workingRate (take (t - f) (drop f st))
+    → im' ≡ cleared 441000 im → vo' ≡ cleared 144000 vo → z ≡ inPhase s (Reported x r)
+    → Finished s st im vo z im' vo'
+unfolding reporting
+collect-done s x st im vo im' vo' r f t z e fits at full hf hr hi hv hz =
     let size : t - f ≡ pictureOf (s .mode) = omega arith in
-    let part : take (pictureOf (s .mode)) (drop f (take (s .taken) st)) ≡ seen =
-    rw (at, drop-take f t st, ← size, take-take (t - f) (t - f) (drop f st) (omega arith)) (sym hs) in
-    record {
+    let part : take (pictureOf (s .mode)) (drop f (take (s .taken) st)) ≡ take (t - f) (drop f st) =
+    rw (at, drop-take f t st, ← size, take-take (t - f) (t - f) (drop f st) (omega arith)) in
+    subst⁻¹ (λ (v : Session). Finished s st im vo v im' vo') hz
+    (record {
       kept = record { mode = refl; anchor = refl; capacity = refl; taken = refl };
       plain = λ known. rw (e, length-take-le (s .taken) st fits, eq-eqb (s .taken) (fullAt (s .mode) x) (at ∙ full), ← hf, part, ← hr);
       evaluations = refl;
@@ -183,16 +203,16 @@ collect-done s x st im vo seen im' vo' r f t e fits at full hf hs hr hi hv =
       near = rw e;
       image = λ _. hi;
       counts = λ _. hv;
-    }
+    })
 
 -- ---- the end
 
 end-live : (h : Phase) → endedPhase (endOf h) ≡ false → ⊥
-end-live Searching e = false-true (sym e)
-end-live (Collecting s) e = false-true (sym e)
-end-live (Reported s r) e = false-true (sym e)
-end-live Unfound e = false-true (sym e)
-end-live (CutShort s) e = false-true (sym e)
+end-live Searching e = false≢true (sym e)
+end-live (Collecting s) e = false≢true (sym e)
+end-live (Reported s r) e = false≢true (sym e)
+end-live Unfound e = false≢true (sym e)
+end-live (CutShort s) e = false≢true (sym e)
 
 end-work : (h : Phase) (n : ℕ) (w : List ℕ) → workAfter (endOf h) n w ≡ workAfter h n w
 end-work Searching n w = refl
@@ -221,11 +241,11 @@ close-idle s before =
       work = λ n w. refl;
     }
 
-pub close-done : (s : Session) (h : Phase) → s .taken ≡ s .capacity → h ≡ endOf (s .phase)
-    → Closed s (record { mode = s .mode; anchor = s .anchor; capacity = s .capacity; taken = s .taken; evaluations = s .evaluations; streak = s .streak; phase = h })
+pub close-done : (s : Session) (h : Phase) (z : Session) → s .taken ≡ s .capacity → h ≡ endOf (s .phase) → z ≡ inPhase s h → Closed s z
 unfolding ending
-close-done s h at e =
-    record {
+close-done s h z at e hz =
+    subst⁻¹ (λ (v : Session). Closed s v) hz
+    (record {
       kept = record { mode = refl; anchor = refl; capacity = refl; taken = refl };
       plain = λ st known fits. rw (length-take-le (s .taken) st fits, eq-eqb (s .taken) (s .capacity) at, ← e);
       evaluations = refl;
@@ -233,13 +253,4 @@ close-done s h at e =
       near = ap positionOf e ∙ end-near (s .phase);
       live = λ l _. end-live (s .phase) (ap endedPhase (sym e) ∙ l);
       work = λ n w. ap (λ (p : Phase). workAfter p n w) e ∙ end-work (s .phase) n w;
-    }
-
--- ---- the samples lent to an evaluation
-
-pub known-fits : (m t k n : ℕ) → k ≡ cond (robot m) (4 * t + 4) 0 → (robot m ≡ true → 4 * t + 4 ≤ n) → k ≤ n
-known-fits m t k n e h = rw e (go (robot m) h)
-  where
-    go : (b : Bool) → (b ≡ true → 4 * t + 4 ≤ n) → cond b (4 * t + 4) 0 ≤ n
-    go true h = h refl
-    go false h = omega arith
+    })

@@ -1,23 +1,24 @@
 -- What the record and the stores of a session stand for, and what open, feed and read ensure (01-scope.md, "Session", "How tight").
 -- Definitions only.
 use mathlib.Core.Path.{_≡_}
-use Prim.Native.Nat.{ℕ, _+_, _*_, _%_, _≤_, _<_, _^_}
-use mathlib.Core.Bool.{Bool, true, false, cond}
-use mathlib.Core.List.{List, [], _∷_, _++_}
+use Prim.Native.Nat.{ℕ, _+_, _*_, _≤_, _<_, _^_}
+use mathlib.Core.Bool.{true, false}
+use mathlib.Core.List.{List}
 use lib.ListN.{length, take}
 use lib.Seq.{paste}
 use lib.Ieee.{Float}
 use Rattle.hough.specs.Memory.{cleared}
-use Rattle.sync_start.specs.Evaluate.{robot}
-use Rattle.plain.specs.declared.Start.{Start}
+use Rattle.modespec.specs.Sizes.{robot}
 use Rattle.plain.specs.declared.Phase.{Phase}
 use Rattle.plain.specs.declared.Phase.the-variants.{Searching, Collecting, Reported, Unfound, CutShort}
 use Rattle.plain.specs.declared.End.{End}
 use Rattle.plain.specs.declared.End.the-variants as end
-use Rattle.plain.specs.declared.Reading.{Reading}
 use Rattle.plain.specs.Plain.{Setup, Plain, endedPhase, opened}
 use Rattle.plain.specs.Point.{Point, stageOf, readPoint}
-use Rattle.plain.specs.Calls.{Lengths, Call, feed, read, Answer, took, gave, refused, answer, after, openCode}
+use Rattle.plain.specs.Calls.{Call, feed, read, Answer, took, gave, refused, answer, after, openCode}
+pub use Rattle.session_parts.specs.Stores.{keptAt}
+pub use Rattle.session_parts.specs.Codes.{setup, lengths}
+pub use Rattle.session_parts.specs.Phases.{positionOf, startOf}
 use Rattle.session.specs.declared.Session.{Session}
 use Rattle.session.specs.declared.Fed.{Fed}
 use Rattle.session.specs.declared.Fed.the-variants as fed
@@ -47,13 +48,6 @@ plainOf s flagStore known =
 abbrev pub Known : Session → List Float → List Float → Type 0
 Known s sampleStore known = robot (s .mode) ≡ true → known ≡ take (4 * s .taken + 4) sampleStore
 
-abbrev pub positionOf : Phase → ℕ
-positionOf Searching = 0
-positionOf (Collecting s) = s .position
-positionOf (Reported s r) = s .position
-positionOf Unfound = 0
-positionOf (CutShort s) = s .position
-
 -- the bounds that every session keeps
 pub record Sane (s : Session) : Type 0 where
   pub mode : s .mode ≤ 15
@@ -75,18 +69,11 @@ pub record Holds (p : Plain) (s : Session) (flagStore : List ℕ) (sampleStore :
 
 -- ---- open
 
--- the sample store with a piece at a place, for Robot 24 and 36
-abbrev pub keptAt : ℕ → ℕ → List Float → ℕ → List Float → List Float
-keptAt mode at piece n sampleStore = cond (robot mode) (paste sampleStore at piece n) sampleStore
-
 abbrev pub OpenSays : Setup → List ℕ → List Float → List Float → Opened → List Float → Type 0
 OpenSays u flagStore sampleStore first (op.Ready s) sampleStore' =
     (openCode u (length sampleStore) first ≡ 0) × (sampleStore' ≡ keptAt (u .mode) 0 first 4 sampleStore) × Holds (opened u first) s flagStore sampleStore'
 OpenSays u flagStore sampleStore first (op.Refused k) sampleStore' =
     (openCode u (length sampleStore) first ≡ k) × (0 < k) × (sampleStore' ≡ sampleStore)
-
-abbrev pub setup : ℕ → ℕ → ℕ → Setup
-setup mode anchor capacity = record { mode = mode; anchor = anchor; capacity = capacity }
 
 -- Open. Not refused, the record and the stores stand for the plain session at its opening.
 pub record OpenMeets (mode anchor : ℕ) (flagStore : List ℕ) (sampleStore first : List Float) (r : Opened) (sampleStore' : List Float) : Type 0 where
@@ -120,9 +107,6 @@ abbrev pub fedWork : Fed → ℕ → List ℕ → List ℕ
 fedWork (fed.Took c s) n w = workAfter (s .phase) n w
 fedWork (fed.Refused k) n w = w
 
-abbrev pub lengths : ℕ → ℕ → ℕ → ℕ → Lengths
-lengths flagStore sampleStore img votes = record { flags = flagStore; samples = sampleStore; img = img; votes = votes }
-
 abbrev pub feedCall : List ℕ → List Float → List ℕ → List ℕ → List ℕ → List Float → Call
 feedCall flagStore sampleStore img votes flags samples = feed (lengths (length flagStore) (length sampleStore) (length img) (length votes)) flags samples
 
@@ -142,10 +126,6 @@ pub record FeedMeets
       × Holds (after p (feedCall flagStore sampleStore img votes flags samples)) (nextOf s r) flagStore' sampleStore'
 
 -- ---- read
-
--- the start, a number of 64 bits
-abbrev pub startOf : ℕ → Start → ℕ
-startOf anchor s = (anchor + s .position) % 2 ^ 64
 
 abbrev pub reading : Session → End → Given
 reading s e = given.Gave (record { end = e; taken = s .taken; evaluations = s .evaluations })

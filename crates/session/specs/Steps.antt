@@ -7,30 +7,28 @@ use mathlib.Core.List.{List, _++_}
 use lib.ListN.{length, take}
 use lib.Seq.{paste}
 use lib.Ieee.{Float}
-use Rattle.sync_start.specs.Evaluate.{robot}
 use Rattle.plain.specs.declared.Phase.{Phase}
-use Rattle.plain.specs.Plain.{Setup, Plain, endedPhase, dueAt, stirAt, evaluating, reporting, ending, events, joined, through, windowOf, pictureOf}
+use Rattle.plain.specs.Plain.{endedPhase, stirAt, evaluating, reporting, ending, events, joined, through}
 use Rattle.session.specs.declared.Session.{Session}
 use Rattle.session.specs.Hold.{setupOf, plainOf, Known, positionOf, Sane, keptAt, workAfter}
-
--- a size of a mode, with the bound that keeps sums of sizes and positions within a word
-pub record WindowIs (mode r : ℕ) : Type 0 where
-  pub is : r ≡ windowOf mode
-  pub small : r ≤ 16777216
-
-pub record PictureIs (mode r : ℕ) : Type 0 where
-  pub is : r ≡ pictureOf mode
-  pub small : r ≤ 16777216
-
--- flags to the next evaluation: none is due before
-pub record DueIn (mode taken r : ℕ) : Type 0 where
-  pub some : 0 < r
-  pub none : (k : ℕ) → taken < k → k < taken + r → dueAt mode k ≡ false
 
 pub record Gap (s : Session) (r : ℕ) : Type 0 where
   pub some : 0 < r
   pub fits : s .taken + r ≤ s .capacity
   pub calm : (k : ℕ) → s .taken < k → k < s .taken + r → stirAt (s .phase) (setupOf s) k ≡ false
+
+-- the session in another phase
+abbrev pub inPhase : Session → Phase → Session
+inPhase s h =
+    record {
+      mode = s .mode;
+      anchor = s .anchor;
+      capacity = s .capacity;
+      taken = s .taken;
+      evaluations = s .evaluations;
+      streak = s .streak;
+      phase = h;
+    }
 
 -- the fields that no event changes
 pub record Kept (s r : Session) : Type 0 where

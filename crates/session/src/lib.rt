@@ -1,20 +1,18 @@
 // The session: a record by value over stores and work memory that the caller lends. Each method takes it and hands the advanced record back.
-mod phases;
-mod refusals;
-mod stores;
-
 ghost use mathlib.Core.Path.{_≡_};
 ghost use mathlib.Core.Bool.{true, false};
 ghost use Prim.Native.Nat.{_+_, _*_, _≤_, _<_};
 ghost use lib.ListN.{length};
-ghost use Rattle.sync_start.specs.Evaluate.{robot};
+ghost use Rattle.modespec.specs.Sizes.{robot};
 ghost use Rattle.plain.specs.declared.Phase.the-variants as Phase;
 ghost use Rattle.plain.specs.Plain.{endedPhase};
 ghost use Rattle.session.specs.Hold.{Sane, OpenMeets, FeedMeets, ReadMeets};
-ghost use Rattle.session.specs.Steps.{Gap, Judged, Finished, Closed, Turned, SaneTest, Ran};
+ghost use Rattle.session.specs.Steps.{Gap, inPhase, Judged, Finished, Closed, Turned, SaneTest, Ran};
 use plain::Phase;
 use plain::Reading;
-use plain::Start;
+use session_parts::phases;
+use session_parts::refusals;
+use session_parts::stores;
 
 pub struct Session {
     pub mode: u8,
@@ -84,17 +82,12 @@ impl Session {
         match phase {
             Phase::Searching => {
                 let due = phases::due_in(mode, taken);
-                if due < room {
-                    return due;
-                }
-                room
+                limits::min(due, room)
             }
             Phase::Collecting(s) => {
                 let full = phases::full(mode, s);
                 if taken < full {
-                    if full - taken < room {
-                        return full - taken;
-                    }
+                    return limits::min(full - taken, room);
                 }
                 room
             }
@@ -104,15 +97,33 @@ impl Session {
         }
     }
 
+    // The session in another phase.
+    fn with_phase(self, phase: Phase) -> Session
+        ensures { λ r. ⌜ r ≡ inPhase self phase ⌝ }
+    {
+        Session {
+            mode: self.mode,
+            anchor: self.anchor,
+            capacity: self.capacity,
+            taken: self.taken,
+            evaluations: self.evaluations,
+            streak: self.streak,
+            phase: phase,
+        }
+    }
+
     // The evaluation of a searching session, where one is due.
-    fn search(self, store: &[u8], audio: &[f32]) -> Session
+    fn evaluate(self, store: &[u8], audio: &[f32]) -> Session
         requires { ⌜ self .mode ≤ 15 ⌝ }
         requires { ⌜ (self .taken ≤ length (now store)) × (self .taken ≤ 16777216) ⌝ }
         requires { ⌜ (robot (self .mode) ≡ true → 4 * self .taken + 4 ≤ length (now audio)) ⌝ }
         requires { ⌜ (self .evaluations < self .taken) × (self .streak ≤ self .evaluations) ⌝ }
-        requires { ⌜ self .phase ≡ Phase.Searching ⌝ }
         ensures { λ r. ⌜ Judged self (now (store .entry)) (now (audio .entry)) r ⌝ }
     {
+        let phase = self.phase;
+        let Phase::Searching = phase else {
+            return self;
+        };
         let mode = self.mode;
         let taken = self.taken;
         let w = phases::window(mode);
@@ -144,51 +155,7 @@ impl Session {
         }
     }
 
-    fn evaluate(self, store: &[u8], audio: &[f32]) -> Session
-        requires { ⌜ self .mode ≤ 15 ⌝ }
-        requires { ⌜ (self .taken ≤ length (now store)) × (self .taken ≤ 16777216) ⌝ }
-        requires { ⌜ (robot (self .mode) ≡ true → 4 * self .taken + 4 ≤ length (now audio)) ⌝ }
-        requires { ⌜ (self .evaluations < self .taken) × (self .streak ≤ self .evaluations) ⌝ }
-        ensures { λ r. ⌜ Judged self (now (store .entry)) (now (audio .entry)) r ⌝ }
-    {
-        let phase = self.phase;
-        match phase {
-            Phase::Searching => self.search(store, audio),
-            Phase::Collecting(_) => self,
-            Phase::Reported(_, _) => self,
-            Phase::Unfound => self,
-            Phase::CutShort(_) => self,
-        }
-    }
-
     // The report of a collecting session, where it is due.
-    fn collect(self, s: Start, store: &[u8], img: &mut [u8], votes: &mut [u16]) -> Session
-        requires { ⌜ self .mode ≤ 15 ⌝ }
-        requires { ⌜ (self .taken ≤ length (now store)) × (self .taken ≤ 16777216) ⌝ }
-        requires { ⌜ (441000 ≤ length (now img)) × (144000 ≤ length (now votes)) ⌝ }
-        requires { ⌜ self .phase ≡ Phase.Collecting s ⌝ }
-        ensures { λ r. ⌜ Finished self (now (store .entry)) (now (img .entry)) (now (votes .entry)) r (now (img .exit)) (now (votes .exit)) ⌝ }
-    {
-        let mode = self.mode;
-        let taken = self.taken;
-        let full = phases::full(mode, s);
-        if taken != full {
-            return self;
-        }
-        let f = full - phases::picture(mode);
-        let spec = modespec::for_mode(mode);
-        let report = sync::find_sync_in(&store[f..full], 11025.0, spec, img, votes);
-        Session {
-            mode: mode,
-            anchor: self.anchor,
-            capacity: self.capacity,
-            taken: taken,
-            evaluations: self.evaluations,
-            streak: self.streak,
-            phase: Phase::Reported(s, report),
-        }
-    }
-
     fn finish(self, store: &[u8], img: &mut [u8], votes: &mut [u16]) -> Session
         requires { ⌜ self .mode ≤ 15 ⌝ }
         requires { ⌜ (self .taken ≤ length (now store)) × (self .taken ≤ 16777216) ⌝ }
@@ -196,13 +163,25 @@ impl Session {
         ensures { λ r. ⌜ Finished self (now (store .entry)) (now (img .entry)) (now (votes .entry)) r (now (img .exit)) (now (votes .exit)) ⌝ }
     {
         let phase = self.phase;
-        match phase {
-            Phase::Searching => self,
-            Phase::Collecting(s) => self.collect(s, store, img, votes),
-            Phase::Reported(_, _) => self,
-            Phase::Unfound => self,
-            Phase::CutShort(_) => self,
+        let Phase::Collecting(s) = phase else {
+            return self;
+        };
+        let mode = self.mode;
+        let taken = self.taken;
+        let full = phases::full(mode, s);
+        if taken != full {
+            return self;
         }
+        let f = phases::first_flag(s);
+        let spec = modespec::for_mode(mode);
+        let report = sync::find_sync_in(
+            &store[f..full],
+            modespec::WORKING_SAMPLE_RATE_HZ,
+            spec,
+            img,
+            votes,
+        );
+        self.with_phase(Phase::Reported(s, report))
     }
 
     // The end at the store's last place.
@@ -213,16 +192,7 @@ impl Session {
             return self;
         }
         let phase = self.phase;
-        let last = phases::end_of(phase);
-        Session {
-            mode: self.mode,
-            anchor: self.anchor,
-            capacity: self.capacity,
-            taken: self.taken,
-            evaluations: self.evaluations,
-            streak: self.streak,
-            phase: last,
-        }
+        self.with_phase(phases::end_of(phase))
     }
 
     // A chunk that ends at the next event or before it: stored, then asked in order for evaluation, report and end.
@@ -270,13 +240,13 @@ impl Session {
         if 15 < self.mode {
             return false;
         }
-        if 4611686018427387904 < self.anchor {
+        if limits::MAX_ANCHOR < self.anchor {
             return false;
         }
         if self.capacity <= self.taken {
             return false;
         }
-        if 16777216 < self.capacity {
+        if limits::MAX_FLAGS < self.capacity {
             return false;
         }
         if self.taken < self.evaluations {
@@ -286,7 +256,7 @@ impl Session {
             return false;
         }
         let phase = self.phase;
-        if 4611686018427387904 < phases::position(phase) {
+        if limits::MAX_ANCHOR < phases::position(phase) {
             return false;
         }
         true
@@ -319,7 +289,7 @@ impl Session {
             }
             let g = s.gap();
             let left = flags.len() - i;
-            let n = if g < left { g } else { left };
+            let n = limits::min(g, left);
             let e = i + n;
             let from = 4 * i;
             let to = 4 * e;
@@ -344,8 +314,11 @@ impl Session {
     ) -> Fed
         ensures { λ r. ⌜ FeedMeets self (now (store .entry)) (now (audio .entry)) (now (img .entry)) (now (votes .entry)) (now (flags .entry)) (now (samples .entry)) r (now (store .exit)) (now (audio .exit)) (now (img .exit)) (now (votes .exit)) ⌝ }
     {
+        let phase = self.phase;
         let code = refusals::feed_code(
-            self,
+            self.mode,
+            self.capacity,
+            phase,
             store.len(),
             audio.len(),
             img.len(),

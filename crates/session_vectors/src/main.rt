@@ -5,9 +5,7 @@
 // Operation 1, feed: lengths a of the piece, b of the stores, c of the work memories, refusal x, y flags taken. The payload has the
 // flags, how many of them are overwritten, their places and values, and the pieces of the samples.
 // Operation 2, read: refusal x, end y, and eight words in the payload.
-mod calls;
-mod memory;
-mod reading;
+mod records;
 
 use plain::Phase;
 use replay::Long;
@@ -66,8 +64,8 @@ fn one(
             z: _,
             n,
         } => {
-            let h = calls::Head { op, a, b, c, x, y };
-            let turn = calls::record(fd, session, h, n, store, audio, img, votes, flags, samples);
+            let h = records::Head { op, a, b, c, x, y };
+            let turn = records::record(fd, session, h, n, store, audio, img, votes, flags, samples);
             let next = turn.session;
             let tally = tally::counted(t, op, turn.right);
             Point {
@@ -100,10 +98,8 @@ fn all(
 }
 
 fn main() {
-    let path = b"vectors";
-    let fd = os::open_read(path);
+    let fd = replay::opened(b"vectors");
     if fd < 0 {
-        os::fail(path);
         return;
     }
     let mut store = [0u8; 773825];
@@ -122,9 +118,5 @@ fn main() {
         &mut samples,
     );
     libc::close(fd);
-    let ops = t.ops;
-    tally::line(b"open", ops[0]);
-    tally::line(b"feed", ops[1]);
-    tally::line(b"read", ops[2]);
-    tally::last_line(t);
+    tally::report(b"open feed read", t);
 }

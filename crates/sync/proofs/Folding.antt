@@ -1,23 +1,20 @@
 -- Laws of the final fold: a line is added to the counts, and after n lines each count is its column's sum. Assumes nothing.
 use mathlib.Core.Path.{_≡_, refl, ap, sym, _∙_}
 use mathlib.Core.Bool.{Bool, true, false, not}
-use mathlib.Core.List.{List, [], _∷_, _++_}
-use Prim.Native.Nat.{ℕ, zero, suc, _+_, _*_, _^_, _≤_, _<_}
+use mathlib.Core.List.{List}
+use Prim.Native.Nat.{ℕ, _+_, _*_, _^_, _≤_, _<_}
 use native.Mathlib.Nat.{zero-add}
-use native.Mathlib.Numerals.{add-one}
 use native.Mathlib.Omega.{arith}
 use borrow.Author.Count.{below-more}
-use lib.ListN.{length, getD, set, length-set, length-append, List·getD-append}
-use lib.Seq.{getD-set-same, getD-set-other, getD-at, ext-getD}
+use lib.ListN.{length, getD, set, length-set}
+use lib.Seq.{getD-set-same, getD-set-other, ext-getD}
 use lib.Dec.{T, ltb, ltb→lt, nltb→le}
 use lib.Ieee.{Float, nan, binary64, add}
-use Rattle.hough.specs.Pass.{probeOf}
+use Rattle.columns.specs.Columns.{listTo, probeOf}
+use Rattle.columns.proofs.Lists.{length-list, getD-list}
 use Rattle.pulse.specs.Sums.{sumFrom}
 use Rattle.pulse.proofs.Sums.{sum-none, sum-more, sum-below}
-use Rattle.sync.specs.Fold.{lineSeconds, columnSeconds, flagAt, foldFlag, columnCount, listed, foldOf, ColumnTable, Added, AddedIn}
-
-differs : {k n : ℕ} → k < n → k ≡ n → ⊥
-differs l e = omega arith
+use Rattle.sync.specs.Fold.{lineSeconds, columnSeconds, flagAt, foldFlag, columnCount, foldOf, Added, AddedIn}
 
 -- ---- a line
 
@@ -37,7 +34,7 @@ part-more f a n old new v o l p e =
     record {
       size = simp length-set (p .size);
       sum = λ x i h.
-          below-more (λ (x : ℕ). a ≤ x → getD (set new n v) x 0 ≡ getD old x 0 + f x) n (λ x b i. getD-set-other new n x v 0 (differs b) ∙ p .sum x i b)
+          below-more (λ (x : ℕ). a ≤ x → getD (set new n v) x 0 ≡ getD old x 0 + f x) n (λ x b i. getD-set-other new n x v 0 (λ q. omega arith) ∙ p .sum x i b)
           (λ i. getD-set-same new n v 0 l ∙ e ∙ ap (λ (z : ℕ). z + f n) (p .rest n (λ i b. omega arith))) x h i;
       rest = λ x b. getD-set-other new n x v 0 (λ q. b (omega arith) (omega arith)) ∙ p .rest x (λ i d. b i (omega arith));
     }
@@ -59,45 +56,27 @@ part-join f a b old mid new o p q =
 
 module _ (flags : List ℕ) (rate line : Float) where
   -- a line more: the flags at y * L and the columns' times
-  pub lines-more : (old new : List ℕ) (times : List Float) (start : Float) (y : ℕ) → ColumnTable line times → start ≡ lineSeconds line y
+  pub lines-more : (old new : List ℕ) (times : List Float) (start : Float) (y : ℕ) → times ≡ listTo (columnSeconds line) 700 → start ≡ lineSeconds line y
       → ((x : ℕ) → x < 700 → getD old x 0 ≡ columnCount flags rate line y x) → Added (λ x. flagAt flags rate start (getD times x nan)) 700 old new
       → (x : ℕ) → x < 700 → getD new x 0 ≡ columnCount flags rate line (y + 1) x
   unfolding foldFlag
   lines-more old new times start y t e h a x l =
       a .sum x l
       ∙ ap (λ (z : ℕ). z + flagAt flags rate start (getD times x nan)) (h x l)
-      ∙ ap (λ (z : ℕ). columnCount flags rate line y x + z) (ap (λ (s : Float). flagAt flags rate s (getD times x nan)) e ∙ ap (flagAt flags rate (lineSeconds line y)) (t .column x l))
+      ∙ ap (λ (z : ℕ). columnCount flags rate line y x + z) (ap (λ (s : Float). flagAt flags rate s (getD times x nan)) e ∙ ap (flagAt flags rate (lineSeconds line y)) (rw t (getD-list (columnSeconds line) 700 x nan l)))
       ∙ sym (sum-more (foldFlag flags rate line x) 0 y ∙ ap (λ (z : ℕ). columnCount flags rate line y x + foldFlag flags rate line x z) (zero-add y))
-
--- ---- a list of n values
-
-pub listed-length : (f : ℕ → ℕ) (n : ℕ) → length (listed f n) ≡ n
-unfolding listed
-listed-length f zero = refl
-listed-length f (suc n) = simp length-append (omega (arith, listed-length f n))
-
-pub listed-at : (f : ℕ → ℕ) (n k : ℕ) → k < n → getD (listed f n) k 0 ≡ f k
-unfolding listed
-listed-at f zero k l = absurd (omega arith)
-listed-at f (suc n) k l = rest (below-more (λ (k : ℕ). getD (listed f n ++ (f n ∷ [])) k 0 ≡ f k) n (λ k b. List·getD-append (listed f n) (f n ∷ []) 0 k (long k b) ∙ listed-at f n k b) (getD-at (listed f n) (f n) [] 0 n (listed-length f n)) k)
-  where
-    long : (k : ℕ) → k < n → k < length (listed f n)
-    long k b = rw (listed-length f n) b
-
-    rest : (k < n + 1 → getD (listed f n ++ (f n ∷ [])) k 0 ≡ f k) → getD (listed f n ++ (f n ∷ [])) k 0 ≡ f k
-    rest g = g (omega arith)
 
 -- ---- the fold
 
 pub fold-is : (flags counts : List ℕ) (rate line : Float) (n : ℕ) → length counts ≡ 700 → ((x : ℕ) → x < 700 → getD counts x 0 ≡ columnCount flags rate line n x) → counts ≡ foldOf flags rate line n
 unfolding foldOf
 fold-is flags counts rate line n s h =
-    ext-getD 0 counts (listed (columnCount flags rate line n) 700) (s ∙ sym (listed-length (columnCount flags rate line n) 700))
-    (λ x l. let b : x < 700 = omega arith in h x b ∙ sym (listed-at (columnCount flags rate line n) 700 x b))
+    ext-getD 0 counts (listTo (columnCount flags rate line n) 700) (s ∙ sym (length-list (columnCount flags rate line n) 700))
+    (λ x l. let b : x < 700 = omega arith in h x b ∙ sym (getD-list (columnCount flags rate line n) 700 x 0 b))
 
 pub fold-length : (flags : List ℕ) (rate line : Float) (n : ℕ) → length (foldOf flags rate line n) ≡ 700
 unfolding foldOf
-fold-length flags rate line n = listed-length (columnCount flags rate line n) 700
+fold-length flags rate line n = length-list (columnCount flags rate line n) 700
 
 -- flags of a byte, at most 65,536 lines
 pub count-below : (flags : List ℕ) (rate line : Float) (n x : ℕ) → ((k : ℕ) → getD flags k 0 < 2 ^ 8) → n ≤ 65536 → columnCount flags rate line n x ≤ 16711680

@@ -15,7 +15,9 @@ use Rattle.modespec.specs.Sizes.{radioLines, imageProbes, lineWidth}
 use Rattle.modespec.proofs.Rows.{image-lines, radio-lines, line-width}
 use Rattle.hough.specs.declared.Passes.{Passes}
 use Rattle.hough.specs.declared.SlantDeg.the-variants as SlantDeg
-use Rattle.hough.specs.Pass.{passOf, probeOf}
+use Rattle.columns.specs.Columns.{probeOf}
+use Rattle.columns.proofs.Lists.{getD-list}
+use Rattle.hough.specs.Pass.{passOf}
 use Rattle.hough.specs.Passes.{passesFrom, passesOf}
 use Rattle.hough.proofs.Meaning.{zero-flags}
 use Rattle.pulse.specs.Sums.{sumFrom, largest, firstWith, FirstLargest}
@@ -24,10 +26,10 @@ use Rattle.pulse.specs.Quality.{qualityOf}
 use Rattle.pulse.proofs.Sums.{sum-below}
 use Rattle.pulse.proofs.Columns.{columns-fit}
 use Rattle.pulse.proofs.Answers.{edge-none}
-use Rattle.sync.specs.Fold.{lineSeconds, columnSeconds, flagAt, foldFlag, columnCount, listed, foldOf}
+use Rattle.sync.specs.Fold.{lineSeconds, columnSeconds, flagAt, foldFlag, columnCount, foldOf}
 use Rattle.sync.specs.declared.SyncResult.{SyncResult}
 use Rattle.sync.specs.FindSync.{skipOf, alignedBy, alignedOf, syncResultOf, SpecFits}
-use Rattle.sync.proofs.Folding.{listed-at, fold-length}
+use Rattle.sync.proofs.Folding.{fold-length}
 
 -- every mode's row is one that the inner form takes
 pub mode-fits : (mode : ℕ) → SpecFits (specOf mode)
@@ -117,7 +119,7 @@ fold-zeros : (flags : List ℕ) (rate line : Float) (n : ℕ) → ((k : ℕ) →
 unfolding foldOf foldFlag flagAt
 fold-zeros flags rate line n h x l =
     let b : columnCount flags rate line n x ≤ n * 0 = sum-below (foldFlag flags rate line x) 0 0 n (λ y. omega (arith, h (probeOf (add binary64 (lineSeconds line y) (columnSeconds line x)) rate))) in
-    listed-at (columnCount flags rate line n) 700 x l ∙ omega arith
+    getD-list (columnCount flags rate line n) 700 x 0 l ∙ omega arith
 
 edge-zeros : (flags : List ℕ) (rate line : Float) (n : ℕ) → ((k : ℕ) → getD flags k 0 ≡ 0) → edgeOf (foldOf flags rate line n) ≡ 0
 edge-zeros flags rate line n h =

@@ -1,12 +1,14 @@
 -- `find_sync` (01-scope.md, "Slant and rate", "Numbers given by cause"): what it answers, and what it does to the work memory. Definitions only.
 use mathlib.Core.Path.{_≡_}
 use Prim.Native.Nat.{ℕ, zero, suc, _≤_}
-use mathlib.Core.Bool.{Bool, cond, not, _&&_, _||_}
-use mathlib.Core.List.{List}
+use mathlib.Core.Bool.{Bool, not, _&&_, _||_}
+use mathlib.Core.List.{List, [], _∷_}
 use lib.ListN.{length, take}
 use lib.Dec.{ltb}
 use lib.IntN.{ℤ}
 use lib.Ieee.{Float, binary64, add, sub, mul, div, le, ofInt, toSigned}
+use Rattle.limits.specs.Refusals.{_⇒_, firstOf}
+use Rattle.limits.specs.Ranges.{anyAbove}
 use Rattle.ieee.specs.Numbers.{whole}
 use Rattle.ieee.specs.Casts.{roundAway}
 use Rattle.modespec.specs.declared.ModeSpec.{ModeSpec}
@@ -15,7 +17,6 @@ use Rattle.modespec.specs.Sizes.{radioLines, skipCorrection, imageProbes, lineW
 use Rattle.hough.specs.declared.Passes.{Passes}
 use Rattle.hough.specs.Memory.{cleared}
 use Rattle.hough.specs.Passes.{passesOf}
-use Rattle.pulse.specs.Limits.{allAtMost}
 use Rattle.pulse.specs.Quality.{PulseFits, qualityOf}
 use Rattle.pulse.specs.Edge.{edgeOf}
 use Rattle.sync.specs.Fold.{foldOf}
@@ -75,11 +76,13 @@ rateAllowed rate = le (whole 8000) rate && le rate (whole 48000)
 -- the lowest number that applies, or 0: mode, rate, work memory, how many flags, a flag
 unfoldable pub syncRefusal : List ℕ → Float → ℕ → ℕ → ℕ → ℕ
 syncRefusal flags rate mode imgPlaces votesPlaces =
-    cond (ltb 15 mode) 1
-    (cond (not (rateAllowed rate)) 2
-    (cond (ltb imgPlaces 441000 || ltb votesPlaces 144000) 5
-    (cond (ltb 16777216 (length flags)) 6
-    (cond (not (allAtMost 1 flags)) 7 0))))
+    firstOf
+    ((ltb 15 mode ⇒ 1)
+    ∷ (not (rateAllowed rate) ⇒ 2)
+    ∷ ((ltb imgPlaces 441000 || ltb votesPlaces 144000) ⇒ 5)
+    ∷ (ltb 16777216 (length flags) ⇒ 6)
+    ∷ (anyAbove flags ⇒ 7)
+    ∷ [])
 
 abbrev pub answerBy : ℕ → SyncResult → SyncAnswer
 answerBy zero result = Found result

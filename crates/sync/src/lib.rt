@@ -1,16 +1,14 @@
 // `find_sync`: the slant of a picture corrects the rate, and a fold at that rate gives the skip and the quality.
 // From slowrx.rs's sync.rs.
 ghost use mathlib.Core.Path.{_≡_};
-ghost use Prim.Native.Nat.{ℕ, _+_, _≤_, _<_, min};
+ghost use Prim.Native.Nat.{ℕ, _+_, _≤_, _<_};
 ghost use mathlib.Core.Bool.{true};
 ghost use lib.ListN.{length, getD};
 ghost use lib.Dec.{T};
-ghost use lib.Ieee.{nan, binary64, add};
+ghost use lib.Ieee.{nan};
 ghost use lib.Ieee.Positive.{positive};
-ghost use Rattle.hough.specs.Pass.{probeOf};
-ghost use Rattle.modespec.specs.Sizes.{radioLines};
-ghost use Rattle.pulse.specs.Limits.{allAtMost};
-ghost use Rattle.sync.specs.Fold.{flagAt, foldOf, ColumnTable, Added, AddedIn, Rising, Clear};
+ghost use Rattle.columns.specs.Columns.{listTo};
+ghost use Rattle.sync.specs.Fold.{columnSeconds, flagAt, foldOf, Added, AddedIn, Rising, Clear};
 ghost use Rattle.sync.specs.FindSync.{skipSeconds, skipOf, alignedOf, syncResultOf, SpecFits, SyncDone, rateAllowed, syncRefusal, SyncCall};
 use hough::Passes;
 use hough::SlantDeg;
@@ -32,45 +30,26 @@ pub enum SyncAnswer {
 
 // ---- the final fold
 
-// The number of the flag that covers the time start + column.
-fn place(rate: f64, start: f64, column: f64) -> usize
-    ensures { λ r. ⌜ r ≡ probeOf (add binary64 start column) rate ⌝ }
-{
-    ieee::to_u64((start + column) * rate / 4.0) as usize
-}
-
 // The flag that covers the time start + column: 0 beyond the last.
 fn flag_at(flags: &[u8], rate: f64, start: f64, column: f64) -> u8
     ensures { λ r. ⌜ r ≡ flagAt (now (flags .entry)) rate start column ⌝ }
 {
-    let i = place(rate, start, column);
+    let i = columns::probe_at(start + column, rate);
     if i < flags.len() { flags[i] } else { 0 }
 }
 
 // The times of the 700 columns of a line, worked out once and not in each line.
 fn column_seconds(line: f64) -> [f64; 700]
-    ensures { λ r. ⌜ ColumnTable line r ⌝ }
+    ensures { λ r. ⌜ r ≡ listTo (columnSeconds line) 700 ⌝ }
 {
-    let mut columns = [0.0; 700];
+    let parts = columns::column_parts(700);
+    let mut seconds = [0.0; 700];
     let mut x: usize = 0;
     while x < 700 {
-        columns[x] = ((x as f64) / 700.0) * line;
+        seconds[x] = parts[x] * line;
         x += 1;
     }
-    columns
-}
-
-// Whether no flag is above the limit. It goes on to the end, so that LLVM tests many flags at a time.
-fn all_at_most(limit: u8, flags: &[u8]) -> bool
-    ensures { λ r. ⌜ r ≡ allAtMost limit (now (flags .entry)) ⌝ }
-{
-    let mut allowed = true;
-    let mut i: usize = 0;
-    while i < flags.len() {
-        allowed = allowed & (flags[i] <= limit);
-        i += 1;
-    }
-    allowed
+    seconds
 }
 
 // Whether one look at 64 flags tells that none from `first` to `last` is set.
@@ -89,7 +68,7 @@ fn are_clear(flags: &[u8], first: usize, last: usize) -> bool
     if first > flags.len() - 64 {
         return false;
     }
-    all_at_most(0, &flags[first..first + 64])
+    limits::all_at_most(0, &flags[first..first + 64])
 }
 
 // Whether one look tells that the 28 columns from `from` on show no flag that is set.
@@ -99,8 +78,8 @@ fn block_is_clear(flags: &[u8], columns: &[f64], start: f64, rate: f64, from: us
 {
     are_clear(
         flags,
-        place(rate, start, columns[from]),
-        place(rate, start, columns[from + 27]),
+        columns::probe_at(start + columns[from], rate),
+        columns::probe_at(start + columns[from + 27], rate),
     )
 }
 
@@ -210,12 +189,6 @@ fn aligned(flags: &[u8], spec: ModeSpec, passes: Passes) -> SyncResult
 
 // ---- the whole
 
-fn least(a: usize, b: usize) -> usize
-    ensures { λ r. ⌜ r ≡ min a b ⌝ }
-{
-    if a < b { a } else { b }
-}
-
 // `find_sync` of a row. Of img the first 441,000 places and of votes the first 144,000 may hold anything, and come
 // back as 0.
 pub fn find_sync_in(
@@ -228,7 +201,7 @@ pub fn find_sync_in(
     requires { ⌜ SpecFits spec × ((441000 ≤ length (now img)) × (144000 ≤ length (now votes))) ⌝ }
     ensures { λ r. ⌜ SyncDone (syncResultOf spec rate (now (flags .entry))) r (now (img .entry)) (now (img .exit)) (now (votes .entry)) (now (votes .exit)) ⌝ }
 {
-    let n = least(modespec::image_probes(spec, rate), flags.len());
+    let n = limits::min(modespec::image_probes(spec, rate), flags.len());
     let read = &flags[..n];
     let passes = hough::slant_passes(read, rate, spec, img, votes);
     aligned(read, spec, passes)
@@ -252,13 +225,13 @@ fn refusal(flags: &[u8], rate: f64, mode: u8, img_places: usize, votes_places: u
     if !rate_allowed(rate) {
         return 2;
     }
-    if img_places < 441_000 || votes_places < 144_000 {
+    if img_places < limits::IMG_BYTES || votes_places < limits::VOTE_CELLS {
         return 5;
     }
-    if flags.len() > 16_777_216 {
+    if flags.len() > limits::MAX_FLAGS {
         return 6;
     }
-    if all_at_most(1, flags) { 0 } else { 7 }
+    if limits::all_at_most(1, flags) { 0 } else { 7 }
 }
 
 pub fn find_sync(flags: &[u8], rate: f64, mode: u8, img: &mut [u8], votes: &mut [u16]) -> SyncAnswer

@@ -10,16 +10,16 @@ use lib.IntN.{pos}
 use lib.Ieee.{Float, fin, lt}
 use lib.ListN.{length, getD, drop}
 use Rattle.modespec.specs.ModeSpec.{specOf}
-use Rattle.modespec.specs.Sizes.{lineSamples, windowLines, pulseColumns}
-use Rattle.sync_start.specs.declared.pulsed.FirstLine.{FirstLine}
-use Rattle.sync_start.specs.declared.pulsed.FirstLine.the-variants.{Missing, Line}
+use Rattle.modespec.specs.Sizes.{robot, lineSamples, windowLines, pulseColumns}
+use Rattle.first_line.specs.declared.FirstLine.{FirstLine}
+use Rattle.first_line.specs.declared.FirstLine.the-variants.{Missing, Line}
 use Rattle.sync_start.specs.declared.Evaluation.{Evaluation}
 use Rattle.sync_start.specs.declared.Located.{Located}
 use Rattle.sync_start.specs.declared.Located.the-variants.{Nowhere, At}
-use Rattle.sync_start.specs.Evaluate.{robot, countsOf, lineIn, columnOf, lineStart, evenStart, positionOf, locatedBy, windowQuality, streakAfter, startQuality, locateIn, locateOf, readsBy, readsIn, evaluationOf, parityReads}
-use Rattle.sync_start.specs.Fold.{foldOf}
-use Rattle.sync_start.specs.Parity.{oddLine}
-use Rattle.sync_start.proofs.Folding.{fold-length}
+use Rattle.sync_start.specs.Evaluate.{countsOf, lineIn, columnOf, lineStart, evenStart, positionOf, locatedBy, windowQuality, streakAfter, startQuality, locateIn, locateOf, readsBy, readsIn, evaluationOf, parityReads}
+use Rattle.window_fold.specs.Fold.{foldOf}
+use Rattle.line_parity.specs.Parity.{oddLine}
+use Rattle.window_fold.proofs.Folding.{fold-length}
 use Rattle.sync_start.proofs.Column.{column-within, sized}
 use Rattle.sync_start.proofs.Positions.{line-within, timed, position-most}
 use Rattle.sync_start.proofs.Samples.{sampleOf, start-others, start-same, reads-below}

@@ -12,7 +12,7 @@ use Rattle.modespec.specs.Sizes.{lineSamples, windowLines}
 use Rattle.pulse.specs.Quality.{qualityOf}
 use Rattle.sync_start.specs.declared.Located.{Located}
 use Rattle.sync_start.specs.declared.Located.the-variants.{Nowhere, At}
-use Rattle.sync_start.specs.Fold.{foldTo, foldOf}
+use Rattle.window_fold.specs.Fold.{foldTo, foldOf}
 use Rattle.sync_start.specs.Evaluate.{countsOf, windowQuality, startQuality, streakAfter, locateIn, locateOf, withoutStart, withStart, evaluationOf}
 
 module _ (mode j : ℕ) (flags : List ℕ) (spec : ModeSpec) (lines : ℕ) (counts : List ℕ) (s : spec ≡ specOf mode) (l : lines ≡ windowLines spec) where

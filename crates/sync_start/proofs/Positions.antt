@@ -15,10 +15,11 @@ use Rattle.modespec.specs.declared.ModeSpec.{ModeSpec}
 use Rattle.modespec.specs.ModeSpec.{specOf, rows}
 use Rattle.modespec.specs.Sizes.{lineSamples, pulseOffset, windowLines, workingRate}
 use Rattle.modespec.proofs.Rows as Rows
-use Rattle.sync_start.specs.declared.pulsed.FirstLine.{FirstLine}
-use Rattle.sync_start.specs.declared.pulsed.FirstLine.the-variants.{Missing, Line}
-use Rattle.sync_start.specs.Fold.{linesAt, columnPart}
-use Rattle.sync_start.specs.Pulsed.{firstLine, firstPair, halfSet, pulsedLine, lineProbes, pulseProbes, narrowLine, wideLine, orZero, firstPulsedLine}
+use Rattle.first_line.specs.declared.FirstLine.{FirstLine}
+use Rattle.first_line.specs.declared.FirstLine.the-variants.{Missing, Line}
+use Rattle.columns.specs.Columns.{columnPart}
+use Rattle.window_fold.specs.Fold.{linesAt}
+use Rattle.first_line.specs.Pulsed.{firstLine, firstPair, halfSet, pulsedLine, lineProbes, pulseProbes, narrowLine, wideLine, orZero, firstPulsedLine}
 use Rattle.sync_start.specs.Evaluate.{lineStart, evenStart, positionOf}
 use Rattle.sync_start.proofs.Magnitudes.{Under, isUnder, under-tested, weaker, add-under, sub-under, mul-under, part-under, whole-under, away-under, held-under, cut-under}
 
@@ -95,9 +96,9 @@ rate-under = lit≤ tt
 
 module _ (spec : ModeSpec) (t : Timed spec) where
   lines-under : (column y : ℕ) → column ≤ 700 → y ≤ 64 → Under 11 (linesAt y column)
-  unfolding linesAt columnPart
+  unfolding linesAt columnPart ofInt
   lines-under column y c h =
-      add-under 10 (whole y) (columnPart column) (lit< tt) (whole-under y 10 (lit< tt) (le-trans h (lit≤ tt)))
+      add-under 10 (whole y) (columnPart 700 column) (lit< tt) (whole-under y 10 (lit< tt) (le-trans h (lit≤ tt)))
       (part-under 10 (whole column) (lit< tt) (whole-under column 10 (lit< tt) (le-trans c (lit≤ tt))))
 
   start-under : (first column y : ℕ) → first ≤ 16777216 → column ≤ 700 → y ≤ 64 → Under 28 (lineStart spec first column y)

@@ -11,13 +11,13 @@ use lib.Ieee.{Float, fin, toUnsigned}
 use lib.ListN.{length, getD, take, drop, length-drop}
 use lib.Seq.{ext-getD, getD-take, getD-drop, length-take-le}
 use Rattle.modespec.specs.declared.ModeSpec.{ModeSpec}
-use Rattle.modespec.specs.Sizes.{windowLines}
-use Rattle.sync_start.specs.declared.pulsed.FirstLine.{FirstLine}
-use Rattle.sync_start.specs.declared.pulsed.FirstLine.the-variants.{Missing, Line}
-use Rattle.sync_start.specs.Fold.{listTo}
-use Rattle.sync_start.specs.Parity.{robot, toneAt, toneKnown, toneOf, voteOn, voteTo, oddLine, readsTo}
+use Rattle.modespec.specs.Sizes.{robot, windowLines}
+use Rattle.first_line.specs.declared.FirstLine.{FirstLine}
+use Rattle.first_line.specs.declared.FirstLine.the-variants.{Missing, Line}
+use Rattle.columns.specs.Columns.{listTo}
+use Rattle.line_parity.specs.Parity.{toneAt, toneKnown, toneOf, voteOn, voteTo, oddLine, readsTo}
 use Rattle.sync_start.specs.Evaluate.{lineStart, locatedBy, readsBy}
-use Rattle.sync_start.proofs.Tones.{known-end}
+use Rattle.line_parity.proofs.Tones.{known-end}
 
 abbrev pub sampleOf : List Float → ℕ → Float
 sampleOf s n = getD s n (fin false 0 (pos 0))

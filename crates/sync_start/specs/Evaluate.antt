@@ -11,15 +11,14 @@ use Rattle.ieee.specs.Numbers.{whole}
 use Rattle.ieee.specs.Casts.{roundAway, maximum}
 use Rattle.modespec.specs.declared.ModeSpec.{ModeSpec}
 use Rattle.modespec.specs.ModeSpec.{specOf}
-use Rattle.modespec.specs.Sizes.{lineSamples, windowLines, pulseColumns, pulseOffset, workingRate}
+use Rattle.modespec.specs.Sizes.{robot, lineSamples, windowLines, pulseColumns, pulseOffset, workingRate}
 use Rattle.pulse.specs.PulseWindow.{bestWindow}
 use Rattle.pulse.specs.Quality.{qualityOf}
-use Rattle.sync_start.specs.Fold.{linesAt, foldOf}
-use Rattle.sync_start.specs.Pulsed.{firstPulsedLine}
-pub use Rattle.sync_start.specs.Parity.{robot}
-use Rattle.sync_start.specs.Parity.{oddLine, readsTo}
-use Rattle.sync_start.specs.declared.pulsed.FirstLine.{FirstLine}
-use Rattle.sync_start.specs.declared.pulsed.FirstLine.the-variants.{Missing, Line}
+use Rattle.window_fold.specs.Fold.{linesAt, foldOf}
+use Rattle.first_line.specs.Pulsed.{firstPulsedLine}
+use Rattle.line_parity.specs.Parity.{oddLine, readsTo}
+use Rattle.first_line.specs.declared.FirstLine.{FirstLine}
+use Rattle.first_line.specs.declared.FirstLine.the-variants.{Missing, Line}
 use Rattle.sync_start.specs.declared.Located.{Located}
 use Rattle.sync_start.specs.declared.Located.the-variants.{Nowhere, At}
 use Rattle.sync_start.specs.declared.Evaluation.{Evaluation}

@@ -1,11 +1,6 @@
 // One evaluation of the start search: is there a picture whose sync pulses line up, and where does it start?
 // From slowrx.rs's sync_start.rs.
-pub mod fold;
-pub mod parity;
-mod parts;
-pub mod pulsed;
-
-use crate::pulsed::FirstLine;
+use first_line::FirstLine;
 use modespec::ModeSpec;
 ghost use mathlib.Core.Path.{_≡_};
 ghost use Prim.Native.Nat.{_+_, _*_, _≤_};
@@ -85,7 +80,7 @@ fn locate_start(
         FirstLine::Missing => Located::Nowhere,
         FirstLine::Line(y) => {
             let start = line_start(spec, first, column, y);
-            let odd = parity::first_line_is_odd(mode, spec, samples, start);
+            let odd = line_parity::first_line_is_odd(mode, spec, samples, start);
             Located::At(position(spec, even_start(odd, spec, start)))
         }
     }
@@ -106,7 +101,7 @@ fn locate(
     let width = modespec::pulse_columns(spec, 700);
     let best = pulse::best_window(counts, width);
     let column = best.start;
-    let line = pulsed::first_pulsed_line(spec, flags, first, column, width);
+    let line = first_line::first_pulsed_line(spec, flags, first, column, width);
     locate_start(mode, spec, first, column, samples, line)
 }
 
@@ -144,7 +139,7 @@ pub fn evaluate(mode: u8, j: usize, flags: &[u8], samples: &[f32], streak: u64) 
     let spec = modespec::for_mode(mode);
     let lines = modespec::window_lines(spec);
     let first = EVAL_EVERY_PROBES * j;
-    let counts = fold::fold(&flags[first..], modespec::line_samples(spec), lines);
+    let counts = window_fold::fold(&flags[first..], modespec::line_samples(spec), lines);
     let quality = pulse::quality(&counts, spec, lines);
     if quality < START_QUALITY {
         return nowhere(quality, 0);

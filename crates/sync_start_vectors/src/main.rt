@@ -4,6 +4,7 @@
 // Operation 1: a search in mode a over b flags that makes c evaluations. x, y and z are those of the last one. The payload has
 // the flags, the c qualities, and the pieces of the samples.
 // Operation 2: the first line of window b in mode a that is pulsed in column c. x is the line, all ones for none. The payload has the flags.
+use first_line::FirstLine;
 use modespec::ModeSpec;
 use replay::Long;
 use replay::lists;
@@ -11,7 +12,6 @@ use replay::tally;
 use replay::tally::Tally;
 use sync_start::Evaluation;
 use sync_start::Located;
-use sync_start::pulsed::FirstLine;
 ghost use mathlib.Core.Path.{_≡_};
 ghost use Prim.Native.Nat.{_≤_};
 ghost use lib.ListN.{length};
@@ -193,7 +193,7 @@ fn first_line(spec: ModeSpec, first: usize, column: usize, flags: &[u8]) -> u64 
     if first > flags.len() {
         return 0;
     }
-    line_number(sync_start::pulsed::first_pulsed_line(spec, flags, first, column, width))
+    line_number(first_line::first_pulsed_line(spec, flags, first, column, width))
 }
 
 fn first_line_right(h: Head, flags: &[u8]) -> bool {
@@ -310,9 +310,8 @@ fn all(fd: i32, before: Tally) -> Tally {
 
 // The tally with the records of a file more. A file that is not there is wrong.
 fn with_file(path: &[u8], t: Tally) -> Tally {
-    let fd = os::open_read(path);
+    let fd = replay::opened(path);
     if fd < 0 {
-        os::fail(path);
         return tally::cut(t);
     }
     let after = all(fd, t);
@@ -323,9 +322,5 @@ fn with_file(path: &[u8], t: Tally) -> Tally {
 fn main() {
     let searched = with_file(b"vectors", tally::start());
     let t = with_file(b"inner", searched);
-    let ops = t.ops;
-    tally::line(b"evaluate", ops[0]);
-    tally::line(b"search", ops[1]);
-    tally::line(b"first_pulsed_line", ops[2]);
-    tally::last_line(t);
+    tally::report(b"evaluate search first_pulsed_line", t);
 }

@@ -1,17 +1,11 @@
 // Replays the Rust's answers to `find_sync`. The file `vectors` has long records, operation 0: mode a, starting rate b (its
 // pattern), and the flags' run lengths as payload; the rate x, the slant y (all ones for none), the skip z and the quality c.
 use hough::SlantDeg;
-use libc::STDOUT_FILENO;
 use replay::Long;
+use replay::tally;
+use replay::tally::Tally;
 use sync::SyncAnswer;
 use sync::SyncResult;
-
-struct Tally {
-    seen: u64,
-    wrong: u64,
-    more: bool,
-    slants: u64,
-}
 
 fn slant_right(slant: SlantDeg, bits: u64) -> bool {
     match slant {
@@ -77,29 +71,9 @@ fn answered(
     }
 }
 
-// The tally after a record.
-fn tallied(t: Tally, ok: bool, slant: u64) -> Tally {
-    let seen = std::num::wrapping_add_u64(t.seen, 1);
-    let slants = if slant == 0xffff_ffff_ffff_ffff {
-        t.slants
-    } else {
-        std::num::wrapping_add_u64(t.slants, 1)
-    };
-    if ok {
-        Tally {
-            seen: seen,
-            wrong: t.wrong,
-            more: true,
-            slants: slants,
-        }
-    } else {
-        Tally {
-            seen: seen,
-            wrong: std::num::wrapping_add_u64(t.wrong, 1),
-            more: true,
-            slants: slants,
-        }
-    }
+// What is counted: 1 for an answer with a slant, 0 for one without.
+fn kind(slant: u64) -> u64 {
+    if slant == 0xffff_ffff_ffff_ffff { 0 } else { 1 }
 }
 
 // Takes one record. One that is cut short, or longer than the memory for it, is wrong and the last.
@@ -111,20 +85,9 @@ fn one(
     img: &mut [u8],
     votes: &mut [u16],
 ) -> Tally {
-    let failed = Tally {
-        seen: std::num::wrapping_add_u64(t.seen, 1),
-        wrong: std::num::wrapping_add_u64(t.wrong, 1),
-        more: false,
-        slants: t.slants,
-    };
     match replay::next_long(fd) {
-        Long::End => Tally {
-            seen: t.seen,
-            wrong: t.wrong,
-            more: false,
-            slants: t.slants,
-        },
-        Long::Cut => failed,
+        Long::End => tally::ended(t),
+        Long::Cut => tally::cut(t),
         Long::Case {
             op: _,
             a,
@@ -137,24 +100,19 @@ fn one(
         } => {
             let size: usize = n as usize;
             if size > runs.len() {
-                return failed;
+                return tally::cut(t);
             }
-            tallied(
+            tally::counted(
                 t,
+                kind(y),
                 answered(fd, a, b, c, x, y, z, &mut runs[..size], flags, img, votes),
-                y,
             )
         }
     }
 }
 
 fn all(fd: i32, runs: &mut [u8], flags: &mut [u8], img: &mut [u8], votes: &mut [u16]) -> Tally {
-    let mut t = Tally {
-        seen: 0,
-        wrong: 0,
-        more: true,
-        slants: 0,
-    };
+    let mut t = tally::start();
     let mut turns = u64::MAX;
     while turns > 0 && t.more {
         t = one(fd, t, runs, flags, img, votes);
@@ -163,23 +121,21 @@ fn all(fd: i32, runs: &mut [u8], flags: &mut [u8], img: &mut [u8], votes: &mut [
     t
 }
 
-// An array of this length is lent as such, and goes on as a slice from here.
+// Arrays of these lengths are lent as such, and go on as slices from here.
 fn replayed(
     fd: i32,
-    runs: &mut [u8],
+    runs: &mut [u8; 262144],
     flags: &mut [u8; 1000000],
-    img: &mut [u8],
-    votes: &mut [u16],
+    img: &mut [u8; 441000],
+    votes: &mut [u16; 144000],
 ) -> Tally {
     all(fd, runs, flags, img, votes)
 }
 
 // The work memory starts with anything.
 fn main() {
-    let path = b"vectors";
-    let fd = os::open_read(path);
+    let fd = replay::opened(b"vectors");
     if fd < 0 {
-        os::fail(path);
         return;
     }
     let mut runs = [0u8; 262144];
@@ -188,10 +144,5 @@ fn main() {
     let mut votes = [7u16; 144000];
     let t = replayed(fd, &mut runs, &mut flags, &mut img, &mut votes);
     libc::close(fd);
-    io::print_decimal(STDOUT_FILENO, t.slants);
-    io::write_all(STDOUT_FILENO, b" slants\n");
-    io::print_decimal(STDOUT_FILENO, t.seen);
-    io::write_all(STDOUT_FILENO, b" vectors, ");
-    io::print_decimal(STDOUT_FILENO, t.wrong);
-    io::write_all(STDOUT_FILENO, b" wrong\n");
+    tally::report(b"no_slant slant", t);
 }

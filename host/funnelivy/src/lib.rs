@@ -11,7 +11,7 @@ mod session;
 
 pub use recording::{End, Report};
 pub use refusal::Refusal;
-pub use session::{Reading, Session, Work};
+pub use session::{has_parity_tone, sample_store_length, Reading, Session, Work};
 
 use refusal::check;
 

@@ -1,8 +1,8 @@
 //! The port as a machine that recordings are replayed on.
 
 use crate::{
-    best_pulse_window, falling_edge, find_sync, has_sync, sizes, sync_pulse_columns, sync_quality,
-    sync_window, Refusal, Session, Work,
+    best_pulse_window, falling_edge, find_sync, has_sync, sample_store_length, sizes,
+    sync_pulse_columns, sync_quality, sync_window, Refusal, Session, Work,
 };
 use recording::{Answer, Call, Machine};
 
@@ -34,9 +34,7 @@ fn open(
     let mode = mode_number(mode);
     let asked = sizes(mode).map_or(0, |s| s.window + s.picture);
     let flags = count(flags.or(asked));
-    let robot = mode == 3 || mode == 4;
-    let asked = if robot { 4 * flags as u64 + 4 } else { 0 };
-    let samples = count(samples.or(asked));
+    let samples = count(samples.or(sample_store_length(mode, flags) as u64));
     let opened = Session::open_with(mode, anchor, vec![0; flags], vec![0.0; samples], first)?;
     *session = Some(opened);
     Ok(Answer::Opened)

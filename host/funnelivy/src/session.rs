@@ -8,6 +8,23 @@ use crate::{End, Refusal, Report};
 const IMAGE_BYTES: usize = 441_000;
 const VOTE_CELLS: usize = 144_000;
 
+/// Whether a tone tells the parity of a mode's lines: Robot 24 and 36, whose
+/// sessions keep their samples.
+#[must_use]
+pub fn has_parity_tone(mode: u8) -> bool {
+    mode == 3 || mode == 4
+}
+
+/// Places that the sample store needs beside a flag store of `capacity`.
+#[must_use]
+pub fn sample_store_length(mode: u8, capacity: usize) -> usize {
+    if has_parity_tone(mode) {
+        4 * capacity + 4
+    } else {
+        0
+    }
+}
+
 /// Work memory of `find_sync`. One serves any number of sessions in turn.
 pub struct Work {
     pub img: Vec<u8>,
@@ -55,8 +72,7 @@ impl Session {
     /// # Errors
     /// Refusals 1, 4, 5, 6 and 8.
     pub fn open(mode: u8, anchor: u64, capacity: usize, first: &[f32]) -> Result<Self, Refusal> {
-        let robot = mode == 3 || mode == 4;
-        let samples = if robot { 4 * capacity + 4 } else { 0 };
+        let samples = sample_store_length(mode, capacity);
         Self::open_with(mode, anchor, vec![0; capacity], vec![0.0; samples], first)
     }
 

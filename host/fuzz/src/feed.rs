@@ -1,13 +1,14 @@
 //! Feed, on records that a session returned and on others.
 
 use crate::lent::{Lent, Number};
-use crate::live::{is_robot, unopened, Live};
+use crate::live::{unopened, Live};
 use crate::record::{changed, random, read};
 use crate::rng::Rng;
 use crate::tally::Tally;
 use crate::work::Work;
 use crate::{due, ensure, unsound, Outcome, MOST_FLAGS};
 use funnelivy::ffi::{self, RawFed, RawSession};
+use funnelivy::{has_parity_tone, sample_store_length};
 
 /// What a feed brings.
 pub struct Piece {
@@ -63,7 +64,7 @@ impl Piece {
 fn refusal(record: &RawSession, live: &Live, work: &Work, piece: &Piece) -> u32 {
     let (flags, samples) = (piece.flags.len(), piece.samples.len());
     let store = live.flags.len() as u64;
-    let short = is_robot(record.mode) && (live.samples.len() as u64) < 4 * store + 4;
+    let short = live.samples.len() < sample_store_length(record.mode, live.flags.len());
     due(&[
         (record.capacity != store || short || work.short(), 5),
         (flags > MOST_FLAGS || samples != 4 * flags, 6),
@@ -115,7 +116,7 @@ fn stored(record: &RawSession, live: &Live, piece: &Piece, taken: usize) -> Outc
         "feed: other flags were written",
     )?;
     ensure(live.flags.holds(at, flags), "feed: not the flags taken")?;
-    if !is_robot(record.mode) {
+    if !has_parity_tone(record.mode) {
         return ensure(live.samples.same(), "feed: the sample store was touched");
     }
     let (from, to) = (4 * at + 4, 4 * (at + taken) + 4);

@@ -5,6 +5,7 @@ use crate::rng::Rng;
 use crate::tally::Tally;
 use crate::{due, ensure, unsound, Outcome, MOST_FLAGS};
 use funnelivy::ffi::{self, RawSession};
+use funnelivy::{has_parity_tone, sample_store_length};
 
 /// Line and pulse of the modes that are fed to their end here, in flags: Robot
 /// 8 B/W, Robot 12 B/W, Robot 24 and Robot 36.
@@ -14,11 +15,6 @@ const LINES: [(u8, f64, usize); 4] = [
     (3, 0.15 * 2_756.25, 24),
     (4, 0.15 * 2_756.25, 24),
 ];
-
-/// Whether a mode keeps its samples.
-pub fn is_robot(mode: u8) -> bool {
-    mode == 3 || mode == 4
-}
 
 pub struct Live {
     pub record: RawSession,
@@ -66,7 +62,7 @@ pub fn valid(rng: &mut Rng, tally: &mut Tally) -> Result<Live, String> {
     let (mode, line, pulse) = LINES[kind];
     let (window, picture) = sizes(mode);
     let capacity = window + picture + rng.pick(&[0, 0, 0, 1, 500]);
-    let asked = if is_robot(mode) { 4 * capacity + 4 } else { 0 };
+    let asked = sample_store_length(mode, capacity);
     let flags = Lent::new(rng, &vec![0xa5; capacity]);
     let samples = Lent::new(rng, &vec![f32::NAN; asked]);
     let first = [0; 4].map(|_| rng.sample());
@@ -115,10 +111,10 @@ pub fn wild(rng: &mut Rng, tally: &mut Tally) -> Outcome {
     let capacity = match rng.below(8) {
         0 => enough.saturating_sub(1),
         1 => rng.pick(&[0, 1, 5_000]),
-        2 if !is_robot(mode) => MOST_FLAGS + rng.below(2),
+        2 if !has_parity_tone(mode) => MOST_FLAGS + rng.below(2),
         _ => enough + rng.below(2),
     };
-    let asked = if is_robot(mode) { 4 * capacity + 4 } else { 0 };
+    let asked = sample_store_length(mode, capacity);
     let lent = match rng.below(4) {
         0 => asked.saturating_sub(1),
         1 => asked + 1,
@@ -142,7 +138,7 @@ pub fn wild(rng: &mut Rng, tally: &mut Tally) -> Outcome {
 fn refusal(live: &Live, mode: u8, anchor: u64, first: &[f32]) -> u32 {
     let (capacity, stored) = (live.flags.len(), live.samples.len());
     let (window, picture) = sizes(mode);
-    let short = is_robot(mode) && stored < 4 * capacity + 4;
+    let short = stored < sample_store_length(mode, capacity);
     due(&[
         (mode > 15, 1),
         (anchor > 1 << 62, 4),
@@ -158,7 +154,7 @@ fn refusal(live: &Live, mode: u8, anchor: u64, first: &[f32]) -> u32 {
 /// Whether the sample store of Robot 24 and 36 got the first four samples, and
 /// any other nothing.
 fn stored(live: &Live, mode: u8, refusal: u32, first: &[f32]) -> Outcome {
-    if refusal != 0 || !is_robot(mode) {
+    if refusal != 0 || !has_parity_tone(mode) {
         return ensure(live.samples.same(), "open: the sample store changed");
     }
     ensure(

@@ -3,7 +3,7 @@
 use borrow.Author.Needs.{needs}
 use mathlib.Core.Path.{_≡_}
 use lib.Ieee.{Float, binary64, mul, neg}
-use Rattle.ieee.specs.Casts.{fma}
+use Rattle.fma.specs.Fma.{fma}
 use Rattle.dsp.specs.Goertzel.{powerAt}
 use Rattle.dsp.proofs.power_at.Statement.{statement}
 use Rattle.dsp.proofs.power_at.Tie as tie

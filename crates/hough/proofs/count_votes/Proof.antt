@@ -17,17 +17,17 @@ sines-requires c κs = search needs
 cosines-requires : tie.Need-cosines-requires
 cosines-requires c κs = search needs
 
-cast-least : tie.Need-cast-least
-cast-least c = omega (arith, c .struct-known .given)
+cast-min : tie.Need-cast-min
+cast-min c = omega (arith, c .struct-known .given)
 
-least-requires : tie.Need-least-requires
-least-requires c κs = search needs
+min-requires : tie.Need-min-requires
+min-requires c κs = search needs
 
 clear-requires : tie.Need-clear-requires
 clear-requires c κs = search needs
 
 draw-requires : tie.Need-draw-requires
-draw-requires c κs = (c .before .before .before .before .before .before .before .before .before .before .before .before .pre .1 .0, c .before .before .before .before .before .before .before .before .before .before .before .before .pre .0, omega (arith, c .before .before .before .before .before .least .ensures))
+draw-requires c κs = (c .before .before .before .before .before .before .before .before .before .before .before .before .pre .1 .0, c .before .before .before .before .before .before .before .before .before .before .before .before .pre .0, omega (arith, c .before .before .before .before .before .min .ensures))
 
 vote-rows-requires : tie.Need-vote-rows-requires
 vote-rows-requires c κs =
@@ -37,7 +37,7 @@ vote-rows-requires c κs =
     let o = n .before .before in
     let s = o .before .before .before .before .before in
     let l : length (k .clear .last .0) ≡ length (s .args .votes .now) = k .clear .kept .0 in
-    (record { room = rw l (s .pre .1 .1); sine = o .before .sines .ensures; cosine = o .cosines .ensures; narrow = s .pre .0 }, (d .draw .ensures .shows .room, omega (arith, n .least .ensures)))
+    (record { room = rw l (s .pre .1 .1); sine = o .before .sines .ensures; cosine = o .cosines .ensures; narrow = s .pre .0 }, (d .draw .ensures .shows .room, omega (arith, n .min .ensures)))
 
 same-length : tie.Need-same-length
 same-length c = search needs
@@ -54,8 +54,8 @@ returns c =
     let s = n .before .before .before .before .before .before .before in
     let a = s .args in
     let p = passOf (a .flags .now) (a .rate) (a .spec) (a .w) in
-    let e : tallyOf (v .vote-rows .last .0) (v .vote-rows .result) ≡ countedAll (tallyOf (k .clear .last .0) noLeader) (shownAll (d .draw .last .0) (a .w) (n .least .result)) = v .vote-rows .ensures in
-    let f : n .least .result ≡ rows p = n .least .ensures in
+    let e : tallyOf (v .vote-rows .last .0) (v .vote-rows .result) ≡ countedAll (tallyOf (k .clear .last .0) noLeader) (shownAll (d .draw .last .0) (a .w) (n .min .result)) = v .vote-rows .ensures in
+    let f : n .min .result ≡ rows p = n .min .ensures in
     voted p (a .img .now) (d .draw .last .0) (a .votes .now) (k .clear .last .0) (v .vote-rows .last .0) (v .vote-rows .result)
     (rw f at (d .draw .ensures)) (s .pre .1 .1)
     (k .clear .ensures) (e ∙ ap (λ (z : ℕ). countedAll (tallyOf (k .clear .last .0) noLeader) (shownAll (d .draw .last .0) (a .w) z)) f)
@@ -66,8 +66,8 @@ count-votes-spec =
     (tie.spec
     sines-requires
     cosines-requires
-    cast-least
-    least-requires
+    cast-min
+    min-requires
     clear-requires
     draw-requires
     vote-rows-requires

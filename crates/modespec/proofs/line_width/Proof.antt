@@ -10,12 +10,12 @@ use Rattle.modespec.proofs.line_width.Tie as tie
 to-u64-requires : tie.Need-to-u64-requires
 to-u64-requires c κs = search needs
 
-larger-requires : tie.Need-larger-requires
-larger-requires c κs = search needs
+max-requires : tie.Need-max-requires
+max-requires c κs = search needs
 
 returns : tie.Need-returns
 unfolding lineWidth ofBits
-returns c = rw (c .larger .ensures, c .before .to-u64 .ensures)
+returns c = rw (c .max .ensures, c .before .to-u64 .ensures)
 
 pub line-width-spec : {M : Type 1} → statement M
-line-width-spec = tie.close (tie.spec to-u64-requires larger-requires returns)
+line-width-spec = tie.close (tie.spec to-u64-requires max-requires returns)

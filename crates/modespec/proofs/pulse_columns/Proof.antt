@@ -28,8 +28,8 @@ steps spec n e1 e2 e3 e4 e5 e6 = rw (e6, e5, e4, e3, e2, e1)
 nearest-u64-to-f64-requires : tie.Need-nearest-u64-to-f64-requires
 nearest-u64-to-f64-requires c κs = search needs
 
-larger-requires : tie.Need-larger-requires
-larger-requires c κs = search needs
+max-requires : tie.Need-max-requires
+max-requires c κs = search needs
 
 nearest-u64-to-f64-requires-2 : tie.Need-nearest-u64-to-f64-requires-2
 nearest-u64-to-f64-requires-2 c κs = search needs
@@ -45,14 +45,14 @@ to-u64-requires c κs = search needs
 
 returns : tie.Need-returns
 unfolding ofBits
-returns c = steps _ _ (c .before .before .before .before .before .nearest-u64-to-f64 .ensures) (c .before .before .before .before .larger .ensures) (c .before .before .before .nearest-u64-to-f642 .ensures) (c .before .before .round .ensures) (c .before .clamp .ensures) (c .to-u64 .ensures)
+returns c = steps _ _ (c .before .before .before .before .before .nearest-u64-to-f64 .ensures) (c .before .before .before .before .max .ensures) (c .before .before .before .nearest-u64-to-f642 .ensures) (c .before .before .round .ensures) (c .before .clamp .ensures) (c .to-u64 .ensures)
 
 pub pulse-columns-spec : {M : Type 1} → statement M
 pulse-columns-spec =
     tie.close
     (tie.spec
     nearest-u64-to-f64-requires
-    larger-requires
+    max-requires
     nearest-u64-to-f64-requires-2
     round-requires
     clamp-requires

@@ -10,12 +10,12 @@ use Rattle.modespec.proofs.window_lines.Tie as tie
 ceil-to-u64-requires : tie.Need-ceil-to-u64-requires
 ceil-to-u64-requires c κs = search needs
 
-larger-requires : tie.Need-larger-requires
-larger-requires c κs = search needs
+max-requires : tie.Need-max-requires
+max-requires c κs = search needs
 
 returns : tie.Need-returns
 unfolding windowLines ofBits
-returns c = rw (c .larger .ensures, c .before .ceil-to-u64 .ensures)
+returns c = rw (c .max .ensures, c .before .ceil-to-u64 .ensures)
 
 pub window-lines-spec : {M : Type 1} → statement M
-window-lines-spec = tie.close (tie.spec ceil-to-u64-requires larger-requires returns)
+window-lines-spec = tie.close (tie.spec ceil-to-u64-requires max-requires returns)

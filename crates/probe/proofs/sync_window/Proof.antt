@@ -1,7 +1,6 @@
 -- `probe::sync_window` meets its contract. Each way out has one law.
 -- Assumes nothing.
 use mathlib.Core.Path.{sym, _∙_}
-use borrow.Author.Tests.{not-true, not-false}
 use Rattle.probe.proofs.Answers.{centre-high, buffer-other, sound-bad, window-filled}
 use borrow.Author.Needs.{needs}
 use Rattle.probe.proofs.sync_window.Statement.{statement}
@@ -13,13 +12,13 @@ returns c = centre-high _ _ _ (c .if1 .taken)
 returns-2 : tie.Need-returns-2
 returns-2 c = buffer-other _ _ _ (c .before .if1 .left) (c .if2 .taken)
 
-all-in-range-requires : tie.Need-all-in-range-requires
-all-in-range-requires c κs = search needs
+any-unsound-requires : tie.Need-any-unsound-requires
+any-unsound-requires c κs = search needs
 
 returns-3 : tie.Need-returns-3
 returns-3 c =
     let a = c .before in
-    sound-bad _ _ _ (a .before .before .if1 .left) (a .before .if2 .left) (sym (a .all-in-range .ensures) ∙ not-true _ (c .if3 .taken))
+    sound-bad _ _ _ (a .before .before .if1 .left) (a .before .if2 .left) (sym (a .any-unsound .ensures) ∙ c .if3 .taken)
 
 hann-16-requires : tie.Need-hann-16-requires
 hann-16-requires c κs = search needs
@@ -35,7 +34,7 @@ returns-4 c =
     let f = c .before .before in
     let e = f .before .before .before .before in
     let a = e .before in
-    window-filled _ _ _ _ (a .before .before .if1 .left) (a .before .if2 .left) (sym (a .all-in-range .ensures) ∙ not-false _ (e .if3 .left)) (f .fill .ensures)
+    window-filled _ _ _ _ (a .before .before .if1 .left) (a .before .if2 .left) (sym (a .any-unsound .ensures) ∙ e .if3 .left) (f .fill .ensures)
 
 pub sync-window-spec : {M : Type 1} → statement M
 sync-window-spec =
@@ -43,7 +42,7 @@ sync-window-spec =
     (tie.spec
     returns
     returns-2
-    all-in-range-requires
+    any-unsound-requires
     returns-3
     hann-16-requires
     fill-requires

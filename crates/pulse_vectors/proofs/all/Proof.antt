@@ -8,10 +8,13 @@ use Rattle.pulse_vectors.proofs.all.Statement.{statement}
 use Rattle.pulse_vectors.proofs.all.Tie as tie
 
 abbrev Inv-loop : tie.InvT-loop
-Inv-loop fd bytes₀ counts₀ ops₀ t₀ turns₀ bytes counts ops t turns = (length bytes ≡ length bytes₀) × (length counts ≡ length counts₀)
+Inv-loop fd bytes₀ counts₀ t₀ turns₀ bytes counts t turns = (length bytes ≡ length bytes₀) × (length counts ≡ length counts₀)
 
 abbrev μ-loop : tie.MeasureT-loop
-μ-loop fd bytes₀ counts₀ ops₀ t₀ turns₀ bytes counts ops t turns = turns
+μ-loop fd bytes₀ counts₀ t₀ turns₀ bytes counts t turns = turns
+
+start-requires : tie.Need-start-requires Inv-loop μ-loop
+start-requires c κs = tt
 
 loop-holds : tie.Need-loop-holds Inv-loop μ-loop
 loop-holds c = (refl, refl)
@@ -49,4 +52,4 @@ returns-2 c = tt
 pub all-spec : {M : Type 1} → statement M
 all-spec =
     tie.close
-    (tie.spec Inv-loop μ-loop loop-holds one-requires sub-turns loop-less loop-again same-length same-length-2 returns same-length-3 same-length-4 returns-2)
+    (tie.spec Inv-loop μ-loop start-requires loop-holds one-requires sub-turns loop-less loop-again same-length same-length-2 returns same-length-3 same-length-4 returns-2)

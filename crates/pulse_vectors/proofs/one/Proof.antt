@@ -5,19 +5,6 @@ use lib.Seq.{length-take-le}
 use borrow.Author.Needs.{needs}
 use Rattle.pulse_vectors.proofs.one.Statement.{statement}
 use Rattle.pulse_vectors.proofs.one.Tie as tie
-use Rattle.pulse_vectors.proofs.one.Reads as reads
-use Rattle.pulse_vectors.proofs.one.Lts as lts
-use Rattle.pulse_vectors.proofs.answered.Reads as answered-reads
-use Rattle.pulse_vectors.proofs.count.Reads as count-reads
-use Rattle.pulse_vectors.proofs.tallied.Reads as tallied-reads
-use Rattle.replay.proofs.next_long.Reads as next-long-reads
-use Rattle.std.proofs.num.wrapping_add_u64.Reads as wrapping-add-u64-reads
-
-wrapping-add-u64-requires : tie.Need-wrapping-add-u64-requires
-wrapping-add-u64-requires c κs = search needs
-
-wrapping-add-u64-requires-2 : tie.Need-wrapping-add-u64-requires-2
-wrapping-add-u64-requires-2 c κs = search needs
 
 next-long-requires : tie.Need-next-long-requires
 next-long-requires c κs = search needs
@@ -25,17 +12,23 @@ next-long-requires c κs = search needs
 enum-told : tie.Need-enum-told
 enum-told c = search needs
 
+ended-requires : tie.Need-ended-requires
+ended-requires c κs = search needs
+
 enum-told-2 : tie.Need-enum-told-2
 enum-told-2 c = search needs
+
+cut-requires : tie.Need-cut-requires
+cut-requires c κs = search needs
 
 enum-known-op : tie.Need-enum-known-op
 enum-known-op c = search needs
 
+cut-requires-2 : tie.Need-cut-requires-2
+cut-requires-2 c κs = search needs
+
 returns : tie.Need-returns
 returns c = search needs
-
-count-requires : tie.Need-count-requires
-count-requires c κs = search needs
 
 slice-relend-prefix-answered : tie.Need-slice-relend-prefix-answered
 slice-relend-prefix-answered c = search needs
@@ -46,8 +39,8 @@ slice-aggregate-answered c = sym (length-take-le _ _ (omega arith))
 answered-requires : tie.Need-answered-requires
 answered-requires c κs = search needs
 
-tallied-requires : tie.Need-tallied-requires
-tallied-requires c κs = search needs
+counted-requires : tie.Need-counted-requires
+counted-requires c κs = search needs
 
 returns-2 : tie.Need-returns-2
 returns-2 c = search needs
@@ -65,23 +58,4 @@ returns-4 : tie.Need-returns-4
 returns-4 c = search needs
 
 pub one-spec : {M : Type 1} → statement M
-one-spec =
-    tie.close
-    (tie.spec
-    wrapping-add-u64-requires
-    wrapping-add-u64-requires-2
-    next-long-requires
-    enum-told
-    enum-told-2
-    enum-known-op
-    returns
-    count-requires
-    slice-relend-prefix-answered
-    slice-aggregate-answered
-    answered-requires
-    tallied-requires
-    returns-2
-    returns-3
-    same-length
-    same-length-2
-    returns-4)
+one-spec = tie.close (tie.spec next-long-requires enum-told ended-requires enum-told-2 cut-requires enum-known-op cut-requires-2 returns slice-relend-prefix-answered slice-aggregate-answered answered-requires counted-requires returns-2 returns-3 same-length same-length-2 returns-4)

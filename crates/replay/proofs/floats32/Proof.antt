@@ -8,14 +8,14 @@ use native.Mathlib.Nat.{le-of-lt}
 use mathlib.Core.List.{List}
 use lib.ListN.{length, set}
 use lib.Ieee.{Float, binary32, ofBits}
-use Rattle.replay.specs.Words.{float32At}
+use Rattle.words.specs.Words.{float32At}
 use Rattle.replay.proofs.Filling.{filled, nothing, length-filled, one-more, inside, below, shared, at-end}
 use Rattle.replay.proofs.floats32.Statement.{statement}
 use Rattle.replay.proofs.floats32.Tie as tie
 use Rattle.replay.proofs.floats32.Reads as reads
 use Rattle.replay.proofs.floats32.Lts as lts
-use Rattle.replay.proofs.float32_of.Reads as float32-of-reads
-use Rattle.replay.proofs.half_word.Reads as half-word-reads
+use Rattle.words.proofs.float32_of.Reads as float32-of-reads
+use Rattle.words.proofs.half_word.Reads as half-word-reads
 use Rattle.replay.proofs.shared_count.Reads as shared-count-reads
 
 abbrev Inv-loop : tie.InvT-loop

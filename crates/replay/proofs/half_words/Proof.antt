@@ -7,13 +7,13 @@ use native.Mathlib.Omega.{arith}
 use native.Mathlib.Nat.{le-of-lt}
 use mathlib.Core.List.{List}
 use lib.ListN.{length, set}
-use Rattle.replay.specs.Words.{halfWordAt}
+use Rattle.words.specs.Words.{halfWordAt}
 use Rattle.replay.proofs.Filling.{filled, nothing, length-filled, one-more, inside, below, shared, at-end}
 use Rattle.replay.proofs.half_words.Statement.{statement}
 use Rattle.replay.proofs.half_words.Tie as tie
 use Rattle.replay.proofs.half_words.Reads as reads
 use Rattle.replay.proofs.half_words.Lts as lts
-use Rattle.replay.proofs.half_word.Reads as half-word-reads
+use Rattle.words.proofs.half_word.Reads as half-word-reads
 use Rattle.replay.proofs.shared_count.Reads as shared-count-reads
 
 abbrev Inv-loop : tie.InvT-loop

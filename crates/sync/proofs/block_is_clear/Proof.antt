@@ -5,7 +5,7 @@ use Prim.Native.Nat.{ℕ, _+_, _≤_, _<_}
 use native.Mathlib.Omega.{arith}
 use lib.ListN.{getD}
 use lib.Ieee.{Float, nan, binary64, add}
-use Rattle.hough.specs.Pass.{probeOf}
+use Rattle.columns.specs.Columns.{probeOf}
 use Rattle.sync.specs.Fold.{flagAt, Rising, Clear}
 use Rattle.sync.proofs.block_is_clear.Statement.{statement}
 use Rattle.sync.proofs.block_is_clear.Tie as tie
@@ -18,26 +18,26 @@ unfolding flagAt
 within flags columns start rate from first last b r p q c x l h =
     c (probeOf (add binary64 start (getD columns x nan)) rate) (rw p (r from x l (omega arith))) (rw q (r x (from + 27) (omega arith) (omega arith)))
 
-mul-place : tie.Need-mul-place
-mul-place c = omega arith
+mul-probe-at : tie.Need-mul-probe-at
+mul-probe-at c = omega arith
 
-shared-slice-read-place : tie.Need-shared-slice-read-place
-shared-slice-read-place c = omega arith
+shared-slice-read-probe-at : tie.Need-shared-slice-read-probe-at
+shared-slice-read-probe-at c = omega arith
 
-place-requires : tie.Need-place-requires
-place-requires c κs = tt
+probe-at-requires : tie.Need-probe-at-requires
+probe-at-requires c κs = tt
 
-add-place : tie.Need-add-place
-add-place c = omega arith
+add-probe-at : tie.Need-add-probe-at
+add-probe-at c = omega arith
 
-mul-place-2 : tie.Need-mul-place-2
-mul-place-2 c = omega arith
+mul-probe-at-2 : tie.Need-mul-probe-at-2
+mul-probe-at-2 c = omega arith
 
-shared-slice-read-place-2 : tie.Need-shared-slice-read-place-2
-shared-slice-read-place-2 c = omega arith
+shared-slice-read-probe-at-2 : tie.Need-shared-slice-read-probe-at-2
+shared-slice-read-probe-at-2 c = omega arith
 
-place-requires-2 : tie.Need-place-requires-2
-place-requires-2 c κs = tt
+probe-at-requires-2 : tie.Need-probe-at-requires-2
+probe-at-requires-2 c κs = tt
 
 are-clear-requires : tie.Need-are-clear-requires
 are-clear-requires c κs = tt
@@ -47,18 +47,18 @@ returns c =
     let z = c .before in
     let a = z .before .before in
     let s = a .before .before .before .before in
-    λ e. within (s .args .flags .now) (s .args .columns .now) (s .args .start) (s .args .rate) (s .args .from) _ _ (s .pre .1) (s .pre .2) (a .place .ensures) (z .place2 .ensures) (c .are-clear .ensures e)
+    λ e. within (s .args .flags .now) (s .args .columns .now) (s .args .start) (s .args .rate) (s .args .from) _ _ (s .pre .1) (s .pre .2) (a .probe-at .ensures) (z .probe-at2 .ensures) (c .are-clear .ensures e)
 
 pub block-is-clear-spec : {M : Type 1} → statement M
 block-is-clear-spec =
     tie.close
     (tie.spec
-    mul-place
-    shared-slice-read-place
-    place-requires
-    add-place
-    mul-place-2
-    shared-slice-read-place-2
-    place-requires-2
+    mul-probe-at
+    shared-slice-read-probe-at
+    probe-at-requires
+    add-probe-at
+    mul-probe-at-2
+    shared-slice-read-probe-at-2
+    probe-at-requires-2
     are-clear-requires
     returns)

@@ -15,19 +15,19 @@ use Rattle.sync.proofs.find_sync_in.Lts as lts
 use Rattle.hough.proofs.slant_passes.Reads as slant-passes-reads
 use Rattle.modespec.proofs.image_probes.Reads as image-probes-reads
 use Rattle.sync.proofs.aligned.Reads as aligned-reads
-use Rattle.sync.proofs.least.Reads as least-reads
+use Rattle.limits.proofs.min.Reads as min-reads
 
 image-probes-requires : tie.Need-image-probes-requires
 image-probes-requires c κs = search needs
 
-least-requires : tie.Need-least-requires
-least-requires c κs = search needs
+min-requires : tie.Need-min-requires
+min-requires c κs = search needs
 
 slice-aggregate-read : tie.Need-slice-aggregate-read
 slice-aggregate-read c =
-    let n = c .before .least .result in
+    let n = c .before .min .result in
     let k = c .before .before .before .before .before .before .args .flags .now in
-    let h : n ≤ length k = omega (arith, c .before .least .ensures) in
+    let h : n ≤ length k = omega (arith, c .before .min .ensures) in
     sym (length-take-le n k h)
 
 slant-passes-requires : tie.Need-slant-passes-requires
@@ -49,10 +49,10 @@ returns c =
     let i = n .before in
     let a = i .before .before .before .before .args in
     let k = a .flags .now in
-    let e : take (n .least .result) k ≡ take (imageProbes (a .spec) (a .rate)) k =
-    ap (λ (m : ℕ). take m k) (n .least .ensures ∙ ap (λ (m : ℕ). min m (length k)) (i .image-probes .ensures)) ∙ take-least (imageProbes (a .spec) (a .rate)) k in
+    let e : take (n .min .result) k ≡ take (imageProbes (a .spec) (a .rate)) k =
+    ap (λ (m : ℕ). take m k) (n .min .ensures ∙ ap (λ (m : ℕ). min m (length k)) (i .image-probes .ensures)) ∙ take-least (imageProbes (a .spec) (a .rate)) k in
     record {
-      result = c .aligned .ensures ∙ ap (alignedOf (take (n .least .result) k) (a .spec)) (p .slant-passes .ensures .passes) ∙ sync-of (a .spec) (a .rate) k (take (n .least .result) k) e;
+      result = c .aligned .ensures ∙ ap (alignedOf (take (n .min .result) k) (a .spec)) (p .slant-passes .ensures .passes) ∙ sync-of (a .spec) (a .rate) k (take (n .min .result) k) e;
       img = p .slant-passes .ensures .img;
       votes = p .slant-passes .ensures .votes;
     }
@@ -62,7 +62,7 @@ find-sync-in-spec =
     tie.close
     (tie.spec
     image-probes-requires
-    least-requires
+    min-requires
     slice-aggregate-read
     slant-passes-requires
     aligned-requires

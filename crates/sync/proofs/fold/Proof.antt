@@ -5,8 +5,9 @@ use native.Mathlib.Omega.{arith}
 use borrow.Author.Needs.{needs}
 use lib.ListN.{length, getD}
 use Rattle.pulse.proofs.Sums.{sum-none}
-use Rattle.pulse.proofs.Columns.{in-float}
-use Rattle.sync.specs.Fold.{lineSeconds, columnCount}
+use Rattle.ieee.proofs.Whole.{in-float}
+use Rattle.columns.proofs.Lists.{length-list}
+use Rattle.sync.specs.Fold.{lineSeconds, columnSeconds, columnCount}
 use Rattle.sync.proofs.Folding.{lines-more, fold-is, count-below}
 use Rattle.sync.proofs.Rising.{line-rises}
 use Rattle.sync.proofs.fold.Statement.{statement}
@@ -45,7 +46,7 @@ fold-line-requires c κs =
     let k = r .before in
     let f = k .before in
     let a = f .before .before .args in
-    (l .loop .inv .1, k .column-seconds .ensures .size, λ e. line-rises (a .rate) (a .line) (k .column-seconds .result) (l .loop .y) (r .rises .ensures e .0) (r .rises .ensures e .1) (k .column-seconds .ensures), λ x b. rw (l .loop .inv .2 x b) (count-below (a .flags .now) (a .rate) (a .line) (l .loop .y) x (λ i. f .shared-slice-known .given i .fits) (omega arith)))
+    (l .loop .inv .1, ap length (k .column-seconds .ensures) ∙ length-list (columnSeconds (a .line)) 700, λ e. line-rises (a .rate) (a .line) (k .column-seconds .result) (l .loop .y) (r .rises .ensures e .0) (r .rises .ensures e .1) (k .column-seconds .ensures), λ x b. rw (l .loop .inv .2 x b) (count-below (a .flags .now) (a .rate) (a .line) (l .loop .y) x (λ i. f .shared-slice-known .given i .fits) (omega arith)))
 
 add-y : tie.Need-add-y Inv-loop μ-loop
 add-y c = omega arith

@@ -6,8 +6,8 @@ use lib.ListN.{length}
 use lib.Ieee.{ofBits, round}
 use Rattle.modespec.specs.Sizes.{windowLines}
 use Rattle.sync_start.specs.Evaluate.{countsOf}
-use Rattle.sync_start.proofs.Folding.{fold-length}
-use Rattle.sync_start.proofs.Lists.{tail-is}
+use Rattle.window_fold.proofs.Folding.{fold-length}
+use Rattle.columns.proofs.Lists.{tail-is}
 use Rattle.sync_start.proofs.Column.{sized-as}
 use Rattle.sync_start.proofs.Judging.{counts-are, weak, short, missed, located}
 use borrow.Author.Needs.{needs}

@@ -1,9 +1,10 @@
 -- `sync_start::line_start` meets its contract. Assumes nothing.
 use native.Mathlib.Omega.{arith}
-use lib.Ieee.{ofBits}
-use Rattle.sync_start.specs.Fold.{linesAt, columnPart}
+use lib.Ieee.{ofBits, ofInt}
+use Rattle.columns.specs.Columns.{columnPart}
+use Rattle.window_fold.specs.Fold.{linesAt}
 use Rattle.sync_start.specs.Evaluate.{lineStart}
-use Rattle.sync_start.proofs.Lists.{in-float}
+use Rattle.ieee.proofs.Whole.{in-float}
 use borrow.Author.Needs.{needs}
 use Rattle.sync_start.proofs.line_start.Statement.{statement}
 use Rattle.sync_start.proofs.line_start.Tie as tie
@@ -24,7 +25,7 @@ pulse-offset-seconds-requires : tie.Need-pulse-offset-seconds-requires
 pulse-offset-seconds-requires c κs = search needs
 
 returns : tie.Need-returns
-unfolding lineStart linesAt columnPart ofBits
+unfolding lineStart linesAt columnPart ofBits ofInt
 returns c = rw (c .pulse-offset-seconds .ensures, c .before .before .before .before .nearest-u64-to-f64 .ensures)
 
 pub line-start-spec : {M : Type 1} → statement M

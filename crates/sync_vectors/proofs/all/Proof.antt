@@ -14,6 +14,9 @@ Inv-loop fd runs₀ flags₀ img₀ votes₀ t₀ turns₀ runs flags img votes 
 abbrev μ-loop : tie.MeasureT-loop
 μ-loop fd runs₀ flags₀ img₀ votes₀ t₀ turns₀ runs flags img votes t turns = turns
 
+start-requires : tie.Need-start-requires Inv-loop μ-loop
+start-requires c κs = tt
+
 loop-holds : tie.Need-loop-holds Inv-loop μ-loop
 loop-holds c = (refl, refl, refl, refl)
 
@@ -62,4 +65,4 @@ returns-2 c = tt
 pub all-spec : {M : Type 1} → statement M
 all-spec =
     tie.close
-    (tie.spec Inv-loop μ-loop loop-holds one-requires sub-turns loop-less loop-again same-length same-length-2 same-length-3 same-length-4 returns same-length-5 same-length-6 same-length-7 same-length-8 returns-2)
+    (tie.spec Inv-loop μ-loop start-requires loop-holds one-requires sub-turns loop-less loop-again same-length same-length-2 same-length-3 same-length-4 returns same-length-5 same-length-6 same-length-7 same-length-8 returns-2)

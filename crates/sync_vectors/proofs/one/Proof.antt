@@ -5,18 +5,6 @@ use lib.Seq.{length-take-le}
 use borrow.Author.Needs.{needs}
 use Rattle.sync_vectors.proofs.one.Statement.{statement}
 use Rattle.sync_vectors.proofs.one.Tie as tie
-use Rattle.sync_vectors.proofs.one.Reads as reads
-use Rattle.sync_vectors.proofs.one.Lts as lts
-use Rattle.replay.proofs.next_long.Reads as next-long-reads
-use Rattle.std.proofs.num.wrapping_add_u64.Reads as wrapping-add-u64-reads
-use Rattle.sync_vectors.proofs.answered.Reads as answered-reads
-use Rattle.sync_vectors.proofs.tallied.Reads as tallied-reads
-
-wrapping-add-u64-requires : tie.Need-wrapping-add-u64-requires
-wrapping-add-u64-requires c κs = search needs
-
-wrapping-add-u64-requires-2 : tie.Need-wrapping-add-u64-requires-2
-wrapping-add-u64-requires-2 c κs = search needs
 
 next-long-requires : tie.Need-next-long-requires
 next-long-requires c κs = search needs
@@ -24,14 +12,26 @@ next-long-requires c κs = search needs
 enum-told : tie.Need-enum-told
 enum-told c = search needs
 
+ended-requires : tie.Need-ended-requires
+ended-requires c κs = search needs
+
 enum-told-2 : tie.Need-enum-told-2
 enum-told-2 c = search needs
+
+cut-requires : tie.Need-cut-requires
+cut-requires c κs = search needs
 
 enum-known-a : tie.Need-enum-known-a
 enum-known-a c = search needs
 
+cut-requires-2 : tie.Need-cut-requires-2
+cut-requires-2 c κs = search needs
+
 returns : tie.Need-returns
 returns c = search needs
+
+kind-requires : tie.Need-kind-requires
+kind-requires c κs = search needs
 
 slice-relend-prefix-answered : tie.Need-slice-relend-prefix-answered
 slice-relend-prefix-answered c = search needs
@@ -42,8 +42,8 @@ slice-aggregate-answered c = sym (length-take-le _ _ (omega arith))
 answered-requires : tie.Need-answered-requires
 answered-requires c κs = search needs
 
-tallied-requires : tie.Need-tallied-requires
-tallied-requires c κs = search needs
+counted-requires : tie.Need-counted-requires
+counted-requires c κs = search needs
 
 returns-2 : tie.Need-returns-2
 returns-2 c = search needs
@@ -67,24 +67,4 @@ returns-4 : tie.Need-returns-4
 returns-4 c = search needs
 
 pub one-spec : {M : Type 1} → statement M
-one-spec =
-    tie.close
-    (tie.spec
-    wrapping-add-u64-requires
-    wrapping-add-u64-requires-2
-    next-long-requires
-    enum-told
-    enum-told-2
-    enum-known-a
-    returns
-    slice-relend-prefix-answered
-    slice-aggregate-answered
-    answered-requires
-    tallied-requires
-    returns-2
-    returns-3
-    same-length
-    same-length-2
-    same-length-3
-    same-length-4
-    returns-4)
+one-spec = tie.close (tie.spec next-long-requires enum-told ended-requires enum-told-2 cut-requires enum-known-a cut-requires-2 returns kind-requires slice-relend-prefix-answered slice-aggregate-answered answered-requires counted-requires returns-2 returns-3 same-length same-length-2 same-length-3 same-length-4 returns-4)

@@ -1,7 +1,7 @@
 -- `funnelivy::report::funnelivy_find_sync` meets its contract. The memories are left as the inner call leaves them.
 -- Assumes nothing.
 use mathlib.Core.Path.{_∙_, ap}
-use Rattle.funnelivy.specs.Report.{reportWire}
+use Rattle.c_answer.specs.Report.{reportWire}
 use borrow.Author.Needs.{needs}
 use Rattle.funnelivy.proofs.report.funnelivy_find_sync.Statement.{statement}
 use Rattle.funnelivy.proofs.report.funnelivy_find_sync.Tie as tie

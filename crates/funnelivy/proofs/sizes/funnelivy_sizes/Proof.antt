@@ -8,7 +8,7 @@ use Rattle.modespec.specs.declared.ModeSpec.{ModeSpec}
 use Rattle.modespec.specs.ModeSpec.{specOf}
 use Rattle.modespec.specs.Sizes.{windowProbes, imageProbes, workingRate}
 use Rattle.modespec.proofs.Rows.{window-probes-fit}
-use Rattle.funnelivy.specs.declared.FunnelivySizesAnswer.{FunnelivySizesAnswer}
+use Rattle.c_answer.specs.declared.FunnelivySizesAnswer.{FunnelivySizesAnswer}
 use Rattle.funnelivy.specs.Sizes.{sizesAnswer}
 use borrow.Author.Needs.{needs}
 use Rattle.funnelivy.proofs.sizes.funnelivy_sizes.Statement.{statement}

@@ -4,7 +4,8 @@ use Prim.Native.Nat.{ℕ, _≤_, _<_, _-_, min}
 use native.Mathlib.Omega.{arith}
 use lib.ListN.{length, getD}
 use lib.Ieee.{Float}
-use Rattle.hough.specs.Pass.{flagOf, probeOf}
+use Rattle.columns.specs.Columns.{probeOf}
+use Rattle.hough.specs.Pass.{flagOf}
 use Rattle.hough.specs.Steps.{RowDrawn}
 use Rattle.hough.proofs.Drawing.{row-none, row-more, seconds-at}
 use Rattle.hough.proofs.image.draw_row.Statement.{statement}
@@ -16,8 +17,8 @@ Inv-loop img₀ flags parts rate line w y n x₀ img x = (x ≤ n) × RowDrawn (
 abbrev μ-loop : tie.MeasureT-loop
 μ-loop img₀ flags parts rate line w y n x₀ img x = n - x
 
-least-requires : tie.Need-least-requires Inv-loop μ-loop
-least-requires c κs = tt
+min-requires : tie.Need-min-requires Inv-loop μ-loop
+min-requires c κs = tt
 
 loop-holds : tie.Need-loop-holds Inv-loop μ-loop
 loop-holds c = (omega arith, row-none _ _ _)
@@ -31,8 +32,8 @@ element-copy-out-seconds c = omega arith
 seconds-requires : tie.Need-seconds-requires Inv-loop μ-loop
 seconds-requires c κs = omega arith
 
-probe-index-requires : tie.Need-probe-index-requires Inv-loop μ-loop
-probe-index-requires c κs = tt
+probe-at-requires : tie.Need-probe-at-requires Inv-loop μ-loop
+probe-at-requires c κs = tt
 
 flag-requires : tie.Need-flag-requires Inv-loop μ-loop
 flag-requires c κs = tt
@@ -61,7 +62,7 @@ loop-again c =
     let fs = a .args .flags .now in (
       omega arith,
       row-more _ _ (l .loop .x) _ _ _ (omega arith) (omega arith) (omega arith) (l .loop .inv .1)
-          (c .flag .ensures ∙ ap (λ (i : ℕ). getD fs i 0) (p .probe-index .ensures ∙ ap (λ (t : Float). probeOf t (a .args .rate)) (s .seconds .ensures ∙ seconds-at (a .args .line) (a .args .w) (l .loop .x) (a .args .y) (a .args .parts .now) (a .pre .1) (omega arith)))),
+          (c .flag .ensures ∙ ap (λ (i : ℕ). getD fs i 0) (p .probe-at .ensures ∙ ap (λ (t : Float). probeOf t (a .args .rate)) (s .seconds .ensures ∙ seconds-at (a .args .line) (a .args .w) (l .loop .x) (a .args .y) (a .args .parts .now) (a .pre .1) (omega arith)))),
     )
 
 same-length : tie.Need-same-length Inv-loop μ-loop
@@ -78,12 +79,12 @@ draw-row-spec =
     (tie.spec
     Inv-loop
     μ-loop
-    least-requires
+    min-requires
     loop-holds
     mul-seconds
     element-copy-out-seconds
     seconds-requires
-    probe-index-requires
+    probe-at-requires
     flag-requires
     mul-img
     add-img

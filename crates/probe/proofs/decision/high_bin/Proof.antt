@@ -11,12 +11,12 @@ use Rattle.probe.proofs.decision.high_bin.Tie as tie
 get-bin-requires : tie.Need-get-bin-requires
 get-bin-requires c κs = search needs
 
-least-requires : tie.Need-least-requires
-least-requires c κs = search needs
+min-requires : tie.Need-min-requires
+min-requires c κs = search needs
 
 returns : tie.Need-returns
 unfolding shiftedBin ofBits ofInt
-returns c = c .least .ensures ∙ ap (λ (b : ℕ). min b 127) (c .before .get-bin .ensures)
+returns c = c .min .ensures ∙ ap (λ (b : ℕ). min b 127) (c .before .get-bin .ensures)
 
 pub high-bin-spec : {M : Type 1} → statement M
-high-bin-spec = tie.close (tie.spec get-bin-requires least-requires returns)
+high-bin-spec = tie.close (tie.spec get-bin-requires min-requires returns)

@@ -11,12 +11,12 @@ use Rattle.probe.proofs.decision.low_bin.Tie as tie
 get-bin-requires : tie.Need-get-bin-requires
 get-bin-requires c κs = search needs
 
-most-requires : tie.Need-most-requires
-most-requires c κs = search needs
+max-requires : tie.Need-max-requires
+max-requires c κs = search needs
 
 returns : tie.Need-returns
 unfolding shiftedBin ofBits ofInt
-returns c = c .most .ensures ∙ ap (λ (b : ℕ). max b 1) (c .before .get-bin .ensures)
+returns c = c .max .ensures ∙ ap (λ (b : ℕ). max b 1) (c .before .get-bin .ensures)
 
 pub low-bin-spec : {M : Type 1} → statement M
-low-bin-spec = tie.close (tie.spec get-bin-requires most-requires returns)
+low-bin-spec = tie.close (tie.spec get-bin-requires max-requires returns)

@@ -11,15 +11,15 @@ use Rattle.probe.proofs.decision.sync_bin.Tie as tie
 get-bin-requires : tie.Need-get-bin-requires
 get-bin-requires c κs = search needs
 
-most-requires : tie.Need-most-requires
-most-requires c κs = search needs
+max-requires : tie.Need-max-requires
+max-requires c κs = search needs
 
-least-requires : tie.Need-least-requires
-least-requires c κs = search needs
+min-requires : tie.Need-min-requires
+min-requires c κs = search needs
 
 returns : tie.Need-returns
 unfolding shiftedBin ofBits ofInt
-returns c = c .least .ensures ∙ ap (λ (b : ℕ). min b 127) (c .before .most .ensures ∙ ap (λ (b : ℕ). max b 1) (c .before .before .get-bin .ensures))
+returns c = c .min .ensures ∙ ap (λ (b : ℕ). min b 127) (c .before .max .ensures ∙ ap (λ (b : ℕ). max b 1) (c .before .before .get-bin .ensures))
 
 pub sync-bin-spec : {M : Type 1} → statement M
-sync-bin-spec = tie.close (tie.spec get-bin-requires most-requires least-requires returns)
+sync-bin-spec = tie.close (tie.spec get-bin-requires max-requires min-requires returns)

@@ -3,9 +3,8 @@
 use Rattle.session.proofs.Feed.{feed-refused, feed-strange, feed-taken, code-room, code-live}
 use Rattle.plain.specs.Plain.{endedPhase}
 use borrow.Author.Tests.{not-true, not-false}
-use mathlib.Core.Bool.{true, false}
-use native.Mathlib.Omega.{arith}
-use mathlib.Core.Path.{_≡_, refl, sym, _∙_, ap}
+use mathlib.Core.Bool.{false}
+use mathlib.Core.Path.{_≡_, sym, _∙_}
 use borrow.Author.Needs.{needs}
 use Rattle.session.proofs.Session.feed.Statement.{statement}
 use Rattle.session.proofs.Session.feed.Tie as tie
@@ -14,7 +13,9 @@ feed-code-requires : tie.Need-feed-code-requires
 feed-code-requires c κs = search needs
 
 returns : tie.Need-returns
-returns c = feed-refused (c .before .before .before .before .before .before .before .before .args .self) (c .before .before .before .before .before .before .before .before .args .store .now) (c .before .before .before .before .before .before .before .before .args .audio .now) (c .before .before .before .before .before .before .before .before .args .img .now) (c .before .before .before .before .before .before .before .before .args .votes .now) (c .before .before .before .before .before .before .before .before .args .flags .now) (c .before .before .before .before .before .before .before .before .args .samples .now) (c .before .feed-code .result) (c .before .feed-code .ensures) (c .if1 .taken)
+returns c =
+    let x = c .before .before .before .before .before .before .before .before .args in
+    feed-refused (x .self) (x .store .now) (x .audio .now) (x .img .now) (x .votes .now) (x .flags .now) (x .samples .now) (c .before .feed-code .result) (c .before .feed-code .ensures (x .self .anchor)) (c .if1 .taken)
 
 sane-requires : tie.Need-sane-requires
 sane-requires c κs = search needs
@@ -22,13 +23,13 @@ sane-requires c κs = search needs
 returns-2 : tie.Need-returns-2
 returns-2 c =
     let x = c .before .before .before .before .before .before .before .before .before .before .args in
-    let live : endedPhase (x .self .phase) ≡ false = code-live (x .self) (x .store .now) (x .audio .now) (x .img .now) (x .votes .now) (x .flags .now) (x .samples .now) (sym (c .before .before .before .feed-code .ensures) ∙ c .before .before .if1 .left) in
+    let live : endedPhase (x .self .phase) ≡ false = code-live (x .self) (x .store .now) (x .audio .now) (x .img .now) (x .votes .now) (x .flags .now) (x .samples .now) (sym (c .before .before .before .feed-code .ensures (x .self .anchor)) ∙ c .before .before .if1 .left) in
     feed-strange (x .self) (x .store .now) (x .audio .now) (x .img .now) (x .votes .now) (x .flags .now) (x .samples .now) live (c .before .sane .ensures .no (not-true (c .before .sane .result) (c .if2 .taken)) live)
 
 run-requires : tie.Need-run-requires
 run-requires c κs =
     let x = c .before .before .before .before .before .before .before .before .before .before .before .before .before .before .args in
-    let code = (sym (c .before .before .before .before .before .before .before .feed-code .ensures) ∙ c .before .before .before .before .before .before .if1 .left) in
+    let code = (sym (c .before .before .before .before .before .before .before .feed-code .ensures (x .self .anchor)) ∙ c .before .before .before .before .before .before .if1 .left) in
     let h = code-room (x .self) (x .store .now) (x .audio .now) (x .img .now) (x .votes .now) (x .flags .now) (x .samples .now) code in (
       c .before .before .before .before .before .sane .ensures .yes (not-false (c .before .before .before .before .before .sane .result) (c .before .before .before .before .if2 .left)),
       (
@@ -54,7 +55,7 @@ returns-3 c =
     let x = c .before .before .before .before .before .before .before .before .before .before .before .before .before .before .before .before .before .before .before .before .before .before .before .before .args in
     feed-taken (x .self) (x .store .now) (x .audio .now) (x .img .now) (x .votes .now) (x .flags .now) (x .samples .now)
     (c .before .before .before .before .before .before .before .before .before .run .result .count) (c .before .before .before .before .before .before .before .before .before .run .result .session) (c .before .before .before .before .before .before .before .before .before .run .last .1 .0) (c .before .before .before .before .before .before .before .before .before .run .last .1 .1 .0) (c .before .before .before .before .before .before .before .before .before .run .last .1 .1 .1 .0) (c .before .before .before .before .before .before .before .before .before .run .last .1 .1 .1 .1 .0)
-    (sym (sym (c .before .before .before .before .before .before .before .before .before .before .before .before .before .before .before .before .before .feed-code .ensures) ∙ c .before .before .before .before .before .before .before .before .before .before .before .before .before .before .before .before .if1 .left)) (c .before .before .before .before .before .before .before .before .before .run .ensures)
+    (sym (sym (c .before .before .before .before .before .before .before .before .before .before .before .before .before .before .before .before .before .feed-code .ensures (x .self .anchor)) ∙ c .before .before .before .before .before .before .before .before .before .before .before .before .before .before .before .before .if1 .left)) (c .before .before .before .before .before .before .before .before .before .run .ensures)
 
 pub feed-spec : {M : Type 1} → statement M
 feed-spec =

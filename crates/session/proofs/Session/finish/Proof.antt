@@ -1,35 +1,58 @@
--- `session::Session::finish` meets its contract. Only a collecting session is reported on.
+-- `session::Session::finish` meets its contract. Only a collecting session is reported on. The report is due with f + P flags, and is
+-- `find_sync`'s on the P flags from f.
 -- Assumes nothing.
-use Rattle.plain.specs.Plain.{reporting, endedPhase}
-use Rattle.session.proofs.Steps.{finish-idle, false-true}
-use mathlib.Core.Bool.{Bool, true, false}
-use native.Mathlib.Omega.{arith}
-use mathlib.Core.Path.{_≡_, refl, sym, _∙_, ap}
+use mathlib.Core.Path.{sym, _∙_, ap, subst⁻¹}
+use lib.ListN.{take, drop}
+use lib.Ieee.{ofBits}
+use Prim.Native.Nat.{_-_}
+use Rattle.modespec.specs.Sizes.{workingRate}
+use Rattle.modespec.specs.declared.ModeSpec.{ModeSpec}
+use Rattle.sync.specs.FindSync.{syncResultOf, SpecFits}
+use Rattle.sync.proofs.Whole.{mode-fits}
+use Rattle.session.proofs.Steps.{finish-other, collect-idle, collect-done}
 use borrow.Author.Needs.{needs}
 use Rattle.session.proofs.Session.finish.Statement.{statement}
 use Rattle.session.proofs.Session.finish.Tie as tie
 
-enum-told : tie.Need-enum-told
-enum-told c = search needs
-
 enum-known-phase : tie.Need-enum-known-phase
 enum-known-phase c = search needs
 
-collect-requires : tie.Need-collect-requires
-collect-requires c κs = search needs
-
-enum-told-2 : tie.Need-enum-told-2
-enum-told-2 c = search needs
-
-enum-told-3 : tie.Need-enum-told-3
-enum-told-3 c = search needs
-
-enum-told-4 : tie.Need-enum-told-4
-enum-told-4 c = search needs
-
 returns : tie.Need-returns
-unfolding reporting
-returns c = finish-idle (c .before .before .before .before .before .args .self) (c .before .before .before .before .before .args .store .now) (c .before .before .before .before .before .args .img .now) (c .before .before .before .before .before .args .votes .now) (λ known. rw (c .enum-told .given .1)) (λ h n w. rw (c .enum-told .given .1))
+returns c =
+    let x = c .before .before .before .before .args in
+    finish-other (x .self) (x .store .now) (x .img .now) (x .votes .now) (c .match .keys2)
+
+full-requires : tie.Need-full-requires
+full-requires c κs = search needs
+
+returns-2 : tie.Need-returns-2
+returns-2 c =
+    let b = c .before .before .before .before .before .before .before .before in
+    let x = b .args in
+    collect-idle (x .self) (c .before .before .before .phase .given .0 .0) (x .store .now) (x .img .now) (x .votes .now) (c .before .before .before .phase .given .1) (b .pre .1 .0 .0) (λ h. c .if1 .taken (h ∙ sym (c .before .full .ensures)))
+
+first-flag-requires : tie.Need-first-flag-requires
+first-flag-requires c κs = search needs
+
+for-mode-requires : tie.Need-for-mode-requires
+for-mode-requires c κs = search needs
+
+sub-find-sync-in : tie.Need-sub-find-sync-in
+sub-find-sync-in c = search needs
+
+part-find-sync-in-start : tie.Need-part-find-sync-in-start
+part-find-sync-in-start c = search needs
+
+part-find-sync-in-end : tie.Need-part-find-sync-in-end
+part-find-sync-in-end c = search needs
+
+find-sync-in-requires : tie.Need-find-sync-in-requires
+find-sync-in-requires c κs =
+    let b = c .before .before .before .before .before .before .before .before .before .before .before .before .before in
+    (subst⁻¹ (λ (v : ModeSpec). SpecFits v) (c .before .before .before .for-mode .ensures) (mode-fits (b .args .self .mode)), b .pre .1 .1)
+
+with-phase-requires : tie.Need-with-phase-requires
+with-phase-requires c κs = search needs
 
 same-length : tie.Need-same-length
 same-length c = search needs
@@ -37,35 +60,36 @@ same-length c = search needs
 same-length-2 : tie.Need-same-length-2
 same-length-2 c = search needs
 
-returns-2 : tie.Need-returns-2
-returns-2 c = search needs
-
 returns-3 : tie.Need-returns-3
-unfolding reporting
-returns-3 c = finish-idle (c .before .before .before .before .before .args .self) (c .before .before .before .before .before .args .store .now) (c .before .before .before .before .before .args .img .now) (c .before .before .before .before .before .args .votes .now) (λ known. rw (c .enum-told2 .given .1)) (λ h n w. absurd (false-true (sym h ∙ ap endedPhase (c .enum-told2 .given .1))))
-
-returns-4 : tie.Need-returns-4
-unfolding reporting
-returns-4 c = finish-idle (c .before .before .before .before .before .args .self) (c .before .before .before .before .before .args .store .now) (c .before .before .before .before .before .args .img .now) (c .before .before .before .before .before .args .votes .now) (λ known. rw (c .enum-told3 .given .1)) (λ h n w. absurd (false-true (sym h ∙ ap endedPhase (c .enum-told3 .given .1))))
-
-returns-5 : tie.Need-returns-5
-unfolding reporting
-returns-5 c = finish-idle (c .before .before .before .before .before .args .self) (c .before .before .before .before .before .args .store .now) (c .before .before .before .before .before .args .img .now) (c .before .before .before .before .before .args .votes .now) (λ known. rw (c .enum-told4 .given .1)) (λ h n w. absurd (false-true (sym h ∙ ap endedPhase (c .enum-told4 .given .1))))
+unfolding ofBits
+returns-3 c =
+    let found = c .before .before .before .before .before .find-sync-in in
+    let a = c .before .before .before .before .before .before .before .before .before in
+    let b = a .before .before .before .before .before .before .before .before .before .before in
+    let s = b .args .self in
+    let st = b .args .store .now in
+    let f = a .before .first-flag .result in
+    let t = a .before .before .before .full .result in
+    let p = a .before .before .before .before .before .phase .given in
+    collect-done s (p .0 .0) st (b .args .img .now) (b .args .votes .now) (found .last .1 .1 .1 .0) (found .last .1 .1 .1 .1 .0) (found .result) f t (c .with-phase .result)
+    (p .1) (b .pre .1 .0 .0) (a .before .before .if1 .left) (a .before .before .before .full .ensures) (a .before .first-flag .ensures)
+    (found .ensures .result ∙ ap (λ (v : ModeSpec). syncResultOf v workingRate (take (t - f) (drop f st))) (a .for-mode .ensures)) (found .ensures .img) (found .ensures .votes) (c .with-phase .ensures)
 
 pub finish-spec : {M : Type 1} → statement M
 finish-spec =
     tie.close
     (tie.spec
-    enum-told
     enum-known-phase
-    collect-requires
-    enum-told-2
-    enum-told-3
-    enum-told-4
     returns
+    full-requires
+    returns-2
+    first-flag-requires
+    for-mode-requires
+    sub-find-sync-in
+    part-find-sync-in-start
+    part-find-sync-in-end
+    find-sync-in-requires
+    with-phase-requires
     same-length
     same-length-2
-    returns-2
-    returns-3
-    returns-4
-    returns-5)
+    returns-3)

@@ -1,12 +1,11 @@
 -- `session::Session::run` meets its contract. The loop's invariant: the session stands after i flags of the piece. The measure is what is left of the piece.
 -- Assumes nothing.
-use mathlib.Core.Path.{_≡_, refl, sym, _∙_, ap}
-use mathlib.Core.Logic.{⊎-elim}
+use mathlib.Core.Path.{_≡_, sym, _∙_, ap}
 use Prim.Native.Nat.{ℕ, _+_, _-_, _*_, _≤_, _<_}
 use native.Mathlib.Omega.{arith}
 use lib.ListN.{length, take, drop}
-use Rattle.sync_start.specs.Evaluate.{robot}
-use Rattle.session.proofs.Lists.{piece-length}
+use Rattle.modespec.specs.Sizes.{robot}
+use Rattle.session_parts.proofs.Lists.{piece-length}
 use Rattle.session.proofs.Loop.{Part, part-none, part-more, ran-whole, ran-ended, part-store, part-audio, part-image, part-counts}
 use Rattle.session.proofs.Session.run.Statement.{statement}
 use Rattle.session.proofs.Session.run.Tie as tie
@@ -23,12 +22,13 @@ record Chunk (len i g n : ℕ) : Type 0 where
   gap : n ≤ g
   fits : i + n ≤ len
 
-chunk-of : (c : tie.Joined2 Inv-loop μ-loop)
-    → Chunk (length (c .before .before .before .before .before .before .before .before .before .before .before .before .args .flags .now)) (c .before .before .before .before .before .loop .i) (c .before .gap .result) (c .if2 .n)
+chunk-of : (c : tie.After-min Inv-loop μ-loop)
+    → Chunk (length (c .before .before .before .before .before .before .before .before .before .before .before .before .args .flags .now)) (c .before .before .before .before .before .loop .i) (c .before .gap .result) (c .min .result)
 chunk-of c =
     let g = c .before .gap .ensures .some in
     let t = c .before .before .before .before .loop-test .taken in
-    ⊎-elim (λ w. record { some = omega arith; gap = omega arith; fits = omega arith }) (λ w. record { some = omega arith; gap = omega arith; fits = omega arith }) (c .if2 .came)
+    let e = c .min .ensures in
+    record { some = omega arith; gap = omega arith; fits = omega arith }
 
 loop-holds : tie.Need-loop-holds Inv-loop μ-loop
 loop-holds c =
@@ -46,53 +46,65 @@ gap-requires c κs =
 sub-left : tie.Need-sub-left Inv-loop μ-loop
 sub-left c = omega arith
 
+min-requires : tie.Need-min-requires Inv-loop μ-loop
+min-requires c κs = tt
+
 add-e : tie.Need-add-e Inv-loop μ-loop
 add-e c =
-    let k = (chunk-of (c .before)) in
+    let k = (chunk-of c) in
     let fits = k .fits in
-    let short = c .before .before .before .before .before .before .loop .inv .given .short in
-    let four = c .before .before .before .before .before .before .loop .inv .given .four in
-    let count = c .before .before .before .before .before .before .loop .inv .count in
+    let short = c .before .before .before .before .before .loop .inv .given .short in
+    let four = c .before .before .before .before .before .loop .inv .given .four in
+    let count = c .before .before .before .before .before .loop .inv .count in
     omega arith
 
 mul-from : tie.Need-mul-from Inv-loop μ-loop
 mul-from c =
-    let k = (chunk-of (c .before)) in
+    let k = (chunk-of c) in
     let fits = k .fits in
-    let short = c .before .before .before .before .before .before .loop .inv .given .short in
-    let four = c .before .before .before .before .before .before .loop .inv .given .four in
-    let count = c .before .before .before .before .before .before .loop .inv .count in
+    let short = c .before .before .before .before .before .loop .inv .given .short in
+    let four = c .before .before .before .before .before .loop .inv .given .four in
+    let count = c .before .before .before .before .before .loop .inv .count in
     omega arith
 
 mul-to : tie.Need-mul-to Inv-loop μ-loop
 mul-to c =
-    let k = (chunk-of (c .before)) in
+    let k = (chunk-of c) in
     let fits = k .fits in
-    let short = c .before .before .before .before .before .before .loop .inv .given .short in
-    let four = c .before .before .before .before .before .before .loop .inv .given .four in
-    let count = c .before .before .before .before .before .before .loop .inv .count in
+    let short = c .before .before .before .before .before .loop .inv .given .short in
+    let four = c .before .before .before .before .before .loop .inv .given .four in
+    let count = c .before .before .before .before .before .loop .inv .count in
     omega arith
 
 sub-turn : tie.Need-sub-turn Inv-loop μ-loop
 sub-turn c =
-    let k = (chunk-of (c .before .before .before .before .before)) in
+    let k = (chunk-of (c .before .before .before .before)) in
     let fits = k .fits in
-    let short = c .before .before .before .before .before .before .before .before .before .before .loop .inv .given .short in
-    let four = c .before .before .before .before .before .before .before .before .before .before .loop .inv .given .four in
-    let count = c .before .before .before .before .before .before .before .before .before .before .loop .inv .count in
+    let short = c .before .before .before .before .before .before .before .before .before .loop .inv .given .short in
+    let four = c .before .before .before .before .before .before .before .before .before .loop .inv .given .four in
+    let count = c .before .before .before .before .before .before .before .before .before .loop .inv .count in
     omega arith
 
 part-turn-start : tie.Need-part-turn-start Inv-loop μ-loop
 part-turn-start c =
-    let k = (chunk-of (c .before .before .before .before .before)) in
+    let k = (chunk-of (c .before .before .before .before)) in
     let fits = k .fits in
-    let short = c .before .before .before .before .before .before .before .before .before .before .loop .inv .given .short in
-    let four = c .before .before .before .before .before .before .before .before .before .before .loop .inv .given .four in
-    let count = c .before .before .before .before .before .before .before .before .before .before .loop .inv .count in
+    let short = c .before .before .before .before .before .before .before .before .before .loop .inv .given .short in
+    let four = c .before .before .before .before .before .before .before .before .before .loop .inv .given .four in
+    let count = c .before .before .before .before .before .before .before .before .before .loop .inv .count in
     omega arith
 
 part-turn-end : tie.Need-part-turn-end Inv-loop μ-loop
 part-turn-end c =
+    let k = (chunk-of (c .before .before .before .before)) in
+    let fits = k .fits in
+    let short = c .before .before .before .before .before .before .before .before .before .loop .inv .given .short in
+    let four = c .before .before .before .before .before .before .before .before .before .loop .inv .given .four in
+    let count = c .before .before .before .before .before .before .before .before .before .loop .inv .count in
+    omega arith
+
+mul-turn : tie.Need-mul-turn Inv-loop μ-loop
+mul-turn c =
     let k = (chunk-of (c .before .before .before .before .before)) in
     let fits = k .fits in
     let short = c .before .before .before .before .before .before .before .before .before .before .loop .inv .given .short in
@@ -100,50 +112,41 @@ part-turn-end c =
     let count = c .before .before .before .before .before .before .before .before .before .before .loop .inv .count in
     omega arith
 
-mul-turn : tie.Need-mul-turn Inv-loop μ-loop
-mul-turn c =
-    let k = (chunk-of (c .before .before .before .before .before .before)) in
-    let fits = k .fits in
-    let short = c .before .before .before .before .before .before .before .before .before .before .before .loop .inv .given .short in
-    let four = c .before .before .before .before .before .before .before .before .before .before .before .loop .inv .given .four in
-    let count = c .before .before .before .before .before .before .before .before .before .before .before .loop .inv .count in
-    omega arith
-
 sub-turn-2 : tie.Need-sub-turn-2 Inv-loop μ-loop
 sub-turn-2 c =
-    let k = (chunk-of (c .before .before .before .before .before .before)) in
+    let k = (chunk-of (c .before .before .before .before .before)) in
     let fits = k .fits in
-    let short = c .before .before .before .before .before .before .before .before .before .before .before .loop .inv .given .short in
-    let four = c .before .before .before .before .before .before .before .before .before .before .before .loop .inv .given .four in
-    let count = c .before .before .before .before .before .before .before .before .before .before .before .loop .inv .count in
+    let short = c .before .before .before .before .before .before .before .before .before .before .loop .inv .given .short in
+    let four = c .before .before .before .before .before .before .before .before .before .before .loop .inv .given .four in
+    let count = c .before .before .before .before .before .before .before .before .before .before .loop .inv .count in
     omega arith
 
 part-turn-start-2 : tie.Need-part-turn-start-2 Inv-loop μ-loop
 part-turn-start-2 c =
-    let k = (chunk-of (c .before .before .before .before .before .before)) in
+    let k = (chunk-of (c .before .before .before .before .before)) in
     let fits = k .fits in
-    let short = c .before .before .before .before .before .before .before .before .before .before .before .loop .inv .given .short in
-    let four = c .before .before .before .before .before .before .before .before .before .before .before .loop .inv .given .four in
-    let count = c .before .before .before .before .before .before .before .before .before .before .before .loop .inv .count in
+    let short = c .before .before .before .before .before .before .before .before .before .before .loop .inv .given .short in
+    let four = c .before .before .before .before .before .before .before .before .before .before .loop .inv .given .four in
+    let count = c .before .before .before .before .before .before .before .before .before .before .loop .inv .count in
     omega arith
 
 part-turn-end-2 : tie.Need-part-turn-end-2 Inv-loop μ-loop
 part-turn-end-2 c =
-    let k = (chunk-of (c .before .before .before .before .before .before)) in
+    let k = (chunk-of (c .before .before .before .before .before)) in
     let fits = k .fits in
-    let short = c .before .before .before .before .before .before .before .before .before .before .before .loop .inv .given .short in
-    let four = c .before .before .before .before .before .before .before .before .before .before .before .loop .inv .given .four in
-    let count = c .before .before .before .before .before .before .before .before .before .before .before .loop .inv .count in
+    let short = c .before .before .before .before .before .before .before .before .before .before .loop .inv .given .short in
+    let four = c .before .before .before .before .before .before .before .before .before .before .loop .inv .given .four in
+    let count = c .before .before .before .before .before .before .before .before .before .before .loop .inv .count in
     omega arith
 
 turn-requires : tie.Need-turn-requires Inv-loop μ-loop
 turn-requires c κs =
-    let h = c .before .before .before .before .before .before .before .before .before .before .before .before .loop .inv in
-    let k = (chunk-of (c .before .before .before .before .before .before .before)) in
+    let h = c .before .before .before .before .before .before .before .before .before .before .before .loop .inv in
+    let k = (chunk-of (c .before .before .before .before .before .before)) in
     let some = k .some in
     let fits = k .fits in
     let le = k .gap in
-    let room = c .before .before .before .before .before .before .before .before .gap .ensures .fits in
+    let room = c .before .before .before .before .before .before .before .gap .ensures .fits in
     let cap = h .capacity in
     let kept = h .given .kept in
     let four = h .given .four in
@@ -153,10 +156,10 @@ turn-requires c κs =
     let audio = part-audio _ _ _ _ _ _ _ _ _ _ _ _ _ h in
     let im = part-image _ _ _ _ _ _ _ _ _ _ _ _ _ h in
     let vo = part-counts _ _ _ _ _ _ _ _ _ _ _ _ _ h in
-    let i = c .before .before .before .before .before .before .before .before .before .before .before .before .loop .i in
-    let n = c .before .before .before .before .before .before .before .if2 .n in
-    let fl = c .before .before .before .before .before .before .before .before .before .before .before .before .before .before .before .before .before .before .before .args .flags .now in
-    let ys = c .before .before .before .before .before .before .before .before .before .before .before .before .before .before .before .before .before .before .before .args .samples .now in
+    let i = c .before .before .before .before .before .before .before .before .before .before .before .loop .i in
+    let n = c .before .before .before .before .before .before .min .result in
+    let fl = c .before .before .before .before .before .before .before .before .before .before .before .before .before .before .before .before .before .before .args .flags .now in
+    let ys = c .before .before .before .before .before .before .before .before .before .before .before .before .before .before .before .before .before .before .args .samples .now in
     let near : i + n - i ≡ n = omega arith in
     let far : 4 * (i + n) - 4 * i ≡ 4 * n = omega arith in
     let len : length (take (i + n - i) (drop i fl)) ≡ n = ap (λ (m : ℕ). length (take m (drop i fl))) near ∙ piece-length fl i n fits in
@@ -164,7 +167,7 @@ turn-requires c κs =
     ap (λ (m : ℕ). length (take m (drop (4 * i) ys))) far ∙ piece-length ys (4 * i) (4 * n) (omega arith) in (
       h .sane,
       (
-        sym (c .before .before .before .before .before .before .before .before .before .before .ended .ensures) ∙ c .before .before .before .before .before .before .before .before .before .if1 .left,
+        sym (c .before .before .before .before .before .before .before .before .before .ended .ensures) ∙ c .before .before .before .before .before .before .before .before .if1 .left,
         (
           cap ∙ kept ∙ sym size,
           ((λ b. let w = h .given .wide (ap robot (sym (h .mode)) ∙ b) in omega arith), ((omega arith, omega arith), ((omega arith, omega arith), omega arith))),
@@ -174,25 +177,25 @@ turn-requires c κs =
 
 loop-less : tie.Need-loop-less Inv-loop μ-loop
 loop-less c =
-    let k = (chunk-of (c .before .before .before .before .before .before .before .before .before .before .before .before .before .before .before .before)) in
+    let k = (chunk-of (c .before .before .before .before .before .before .before .before .before .before .before .before .before .before .before)) in
     let some = k .some in
     let fits = k .fits in
     omega arith
 
 loop-again : tie.Need-loop-again Inv-loop μ-loop
 loop-again c =
-    let h = c .before .before .before .before .before .before .before .before .before .before .before .before .before .before .before .before .before .before .before .before .before .loop .inv in
-    let k = (chunk-of (c .before .before .before .before .before .before .before .before .before .before .before .before .before .before .before .before)) in
-    let i = c .before .before .before .before .before .before .before .before .before .before .before .before .before .before .before .before .before .before .before .before .before .loop .i in
-    let n = c .before .before .before .before .before .before .before .before .before .before .before .before .before .before .before .before .if2 .n in
-    let fl = c .before .before .before .before .before .before .before .before .before .before .before .before .before .before .before .before .before .before .before .before .before .before .before .before .before .before .before .before .args .flags .now in
-    let ys = c .before .before .before .before .before .before .before .before .before .before .before .before .before .before .before .before .before .before .before .before .before .before .before .before .before .before .before .before .args .samples .now in
+    let h = c .before .before .before .before .before .before .before .before .before .before .before .before .before .before .before .before .before .before .before .before .loop .inv in
+    let k = (chunk-of (c .before .before .before .before .before .before .before .before .before .before .before .before .before .before .before)) in
+    let i = c .before .before .before .before .before .before .before .before .before .before .before .before .before .before .before .before .before .before .before .before .loop .i in
+    let n = c .before .before .before .before .before .before .before .before .before .before .before .before .before .before .before .min .result in
+    let fl = c .before .before .before .before .before .before .before .before .before .before .before .before .before .before .before .before .before .before .before .before .before .before .before .before .before .before .before .args .flags .now in
+    let ys = c .before .before .before .before .before .before .before .before .before .before .before .before .before .before .before .before .before .before .before .before .before .before .before .before .before .before .before .args .samples .now in
     let near : i + n - i ≡ n = omega arith in
     let far : 4 * (i + n) - 4 * i ≡ 4 * n = omega arith in
-    part-more _ _ _ _ _ fl ys i (c .before .before .before .before .before .before .before .before .before .before .before .before .before .before .before .before .before .before .before .before .before .loop .s) (c .before .before .before .before .before .before .before .before .before .before .before .before .before .before .before .before .before .before .before .before .before .loop .store) (c .before .before .before .before .before .before .before .before .before .before .before .before .before .before .before .before .before .before .before .before .before .loop .audio) (c .before .before .before .before .before .before .before .before .before .before .before .before .before .before .before .before .before .before .before .before .before .loop .img) (c .before .before .before .before .before .before .before .before .before .before .before .before .before .before .before .before .before .before .before .before .before .loop .votes) (c .before .before .before .before .before .before .before .before .before .before .before .before .before .before .before .before .before .gap .result) n
+    part-more _ _ _ _ _ fl ys i (c .before .before .before .before .before .before .before .before .before .before .before .before .before .before .before .before .before .before .before .before .loop .s) (c .before .before .before .before .before .before .before .before .before .before .before .before .before .before .before .before .before .before .before .before .loop .store) (c .before .before .before .before .before .before .before .before .before .before .before .before .before .before .before .before .before .before .before .before .loop .audio) (c .before .before .before .before .before .before .before .before .before .before .before .before .before .before .before .before .before .before .before .before .loop .img) (c .before .before .before .before .before .before .before .before .before .before .before .before .before .before .before .before .before .before .before .before .loop .votes) (c .before .before .before .before .before .before .before .before .before .before .before .before .before .before .before .before .gap .result) n
     (take (i + n - i) (drop i fl)) (take (4 * (i + n) - 4 * i) (drop (4 * i) ys))
     (c .before .before .before .before .before .before .before .before .turn .result) (c .before .before .before .before .before .before .before .before .turn .last .1 .0) (c .before .before .before .before .before .before .before .before .turn .last .1 .1 .0) (c .before .before .before .before .before .before .before .before .turn .last .1 .1 .1 .0) (c .before .before .before .before .before .before .before .before .turn .last .1 .1 .1 .1 .0)
-    h (sym (c .before .before .before .before .before .before .before .before .before .before .before .before .before .before .before .before .before .before .before .ended .ensures) ∙ c .before .before .before .before .before .before .before .before .before .before .before .before .before .before .before .before .before .before .if1 .left) (c .before .before .before .before .before .before .before .before .before .before .before .before .before .before .before .before .before .gap .ensures) (k .some) (k .gap) (k .fits)
+    h (sym (c .before .before .before .before .before .before .before .before .before .before .before .before .before .before .before .before .before .before .ended .ensures) ∙ c .before .before .before .before .before .before .before .before .before .before .before .before .before .before .before .before .before .if1 .left) (c .before .before .before .before .before .before .before .before .before .before .before .before .before .before .before .before .gap .ensures) (k .some) (k .gap) (k .fits)
     (ap (λ (m : ℕ). take m (drop i fl)) near) (ap (λ (m : ℕ). take m (drop (4 * i) ys)) far) (c .before .before .before .before .before .before .before .before .turn .ensures)
 
 same-length : tie.Need-same-length Inv-loop μ-loop
@@ -235,6 +238,7 @@ run-spec =
     ended-requires
     gap-requires
     sub-left
+    min-requires
     add-e
     mul-from
     mul-to

@@ -1,8 +1,9 @@
 -- `session::Session::sane` meets its contract. Each bound is one test.
 -- Assumes nothing.
-use mathlib.Core.Path.{_≡_, refl, sym, _∙_, ap}
+use mathlib.Core.Path.{sym}
+use mathlib.Core.Bool.{false≢true}
 use native.Mathlib.Omega.{arith}
-use Rattle.session.proofs.Steps.{strange, false-true}
+use Rattle.session.proofs.Steps.{strange}
 use borrow.Author.Needs.{needs}
 use Rattle.session.proofs.Session.sane.Statement.{statement}
 use Rattle.session.proofs.Session.sane.Tie as tie
@@ -46,7 +47,7 @@ returns-8 c =
             near = omega arith;
             live = λ _. omega arith;
           };
-      no = λ e _ _. false-true (sym e);
+      no = λ e _ _. false≢true (sym e);
     }
 
 pub sane-spec : {M : Type 1} → statement M

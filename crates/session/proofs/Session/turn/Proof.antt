@@ -1,11 +1,12 @@
 -- `session::Session::turn` meets its contract. The tails come back with the chunk at their front, and the three events follow in order.
 -- Assumes nothing.
-use Rattle.session.proofs.Chunk.{kept-length, turn-done}
-use Rattle.session.proofs.Lists.{stored-length}
+use Rattle.session_parts.proofs.Kept.{kept-length}
+use Rattle.session_parts.proofs.Lists.{stored-length}
+use Rattle.session.proofs.Chunk.{turn-done}
 use lib.ListN.{length}
 use Prim.Native.Nat.{_+_, _*_}
 use native.Mathlib.Omega.{arith}
-use mathlib.Core.Path.{_≡_, refl, sym, _∙_, ap}
+use mathlib.Core.Path.{refl, _∙_, ap}
 use borrow.Author.Needs.{needs}
 use Rattle.session.proofs.Session.turn.Statement.{statement}
 use Rattle.session.proofs.Session.turn.Tie as tie

@@ -1,0 +1,2 @@
+-- Laws of the lists that the folds fill.
+pub mod Lists

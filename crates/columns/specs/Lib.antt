@@ -1,0 +1,2 @@
+-- What the folds of flags into columns share. Definitions only.
+pub mod Columns

@@ -1,0 +1,2 @@
+-- The first line of the picture. Definitions only.
+pub mod Pulsed

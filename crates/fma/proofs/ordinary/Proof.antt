@@ -1,0 +1,47 @@
+-- `fma::ordinary` meets its contract. Assumes nothing.
+use Rattle.fma.proofs.Fusing.{asked, masked, fma-digits}
+use borrow.Author.Needs.{needs}
+use Rattle.fma.proofs.ordinary.Statement.{statement}
+use Rattle.fma.proofs.ordinary.Tie as tie
+
+digits-of-requires : tie.Need-digits-of-requires
+digits-of-requires c κs = asked (c .args .bx) (c .pre .0)
+
+digits-of-requires-2 : tie.Need-digits-of-requires-2
+digits-of-requires-2 c κs = asked (c .before .args .by) (c .before .pre .1)
+
+digits-of-requires-3 : tie.Need-digits-of-requires-3
+digits-of-requires-3 c κs = asked (c .before .before .args .bz) (c .before .before .pre .2)
+
+sign-of-requires : tie.Need-sign-of-requires
+sign-of-requires c κs = search needs
+
+add-combined : tie.Need-add-combined
+add-combined c = search needs
+
+add-combined-2 : tie.Need-add-combined-2
+add-combined-2 c = search needs
+
+combined-requires : tie.Need-combined-requires
+combined-requires c κs = search needs
+
+returns : tie.Need-returns
+returns c =
+    let a = c .before .before .before .before .before in
+    let px = c .before .before .before .before .digits-of in
+    let py = c .before .before .before .digits-of2 in
+    let pz = c .before .before .digits-of3 in
+    fma-digits (a .args .bx) (a .args .by) (a .args .bz) (c .before .sign-of .result) (px .result .q) (px .result .k) (py .result .q) (py .result .k) (pz .result .q) (pz .result .k) (c .combined .result) (a .pre .0) (a .pre .1) (a .pre .2) (c .before .sign-of .ensures .1) (masked (a .args .bx) (px .result .q) (px .result .k) (px .ensures)) (masked (a .args .by) (py .result .q) (py .result .k) (py .ensures)) (masked (a .args .bz) (pz .result .q) (pz .result .k) (pz .ensures)) (c .combined .ensures)
+
+pub ordinary-spec : {M : Type 1} → statement M
+ordinary-spec =
+    tie.close
+    (tie.spec
+    digits-of-requires
+    digits-of-requires-2
+    digits-of-requires-3
+    sign-of-requires
+    add-combined
+    add-combined-2
+    combined-requires
+    returns)

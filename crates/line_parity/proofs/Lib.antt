@@ -1,0 +1,2 @@
+-- Laws of the tones that vote on parity.
+pub mod Tones

@@ -1,0 +1,2 @@
+-- Parity of the first line. Definitions only.
+pub mod Parity

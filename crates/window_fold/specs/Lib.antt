@@ -1,0 +1,2 @@
+-- The fold of a window of flags. Definitions only.
+pub mod Fold

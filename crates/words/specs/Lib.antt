@@ -1,0 +1,2 @@
+-- Numbers and floats in bytes. Definitions only.
+pub mod Words
