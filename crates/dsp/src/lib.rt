@@ -67,7 +67,7 @@ pub fn power(re: f32, im: f32) -> f64
 pub fn get_bin(hz: f64) -> usize
     ensures { λ r. ⌜ r ≡ binOf hz ⌝ }
 {
-    ieee::to_u64(hz * 256.0 / 11025.0) as usize
+    ieee::to_u64(hz * 256.0 / limits::WORKING_SAMPLE_RATE_HZ) as usize
 }
 
 const HANN: [f32; 16] = [

@@ -59,7 +59,7 @@ fn line_probes(spec: ModeSpec) -> f64
 fn pulse_probes(spec: ModeSpec) -> f64
     ensures { λ r. ⌜ r ≡ Pulsed.pulseProbes spec ⌝ }
 {
-    spec.sync_seconds * modespec::WORKING_SAMPLE_RATE_HZ / 4.0
+    spec.sync_seconds * limits::WORKING_SAMPLE_RATE_HZ / 4.0
 }
 
 fn run_needed(pulse: f64) -> f64

@@ -22,7 +22,7 @@ pub extern "C" fn funnelivy_sizes(mode: u8) -> FunnelivySizesAnswer
     FunnelivySizesAnswer {
         refusal: 0,
         window: modespec::window_probes(spec) as u64,
-        picture: modespec::image_probes(spec, 11025.0) as u64,
+        picture: modespec::image_probes(spec, limits::WORKING_SAMPLE_RATE_HZ) as u64,
     }
 }
 

@@ -150,15 +150,9 @@ fn fill16(memory: &mut [u16], value: u16) {
     }
 }
 
-fn nearer(place: usize, end: usize) -> usize
-    ensures { λ r. ⌜ r ≤ end ⌝ }
-{
-    if place < end { place } else { end }
-}
-
 // All but the four samples of an opening.
 fn mark_samples(audio: &mut [f32]) {
-    let from = nearer(4, audio.len());
+    let from = limits::min(4, audio.len());
     replay::fill32(&mut audio[from..], 2.0);
 }
 

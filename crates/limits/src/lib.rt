@@ -1,4 +1,4 @@
-// Limits of lent memory and of numbers, and the tests of flags and samples that several calls make before they take anything.
+// Sizes of lent memory, limits of numbers, and the tests of flags and samples that several calls make before they take anything.
 ghost use mathlib.Core.Path.{_≡_};
 ghost use Prim.Native.Nat.{min, max};
 ghost use Rattle.limits.specs.Ranges.{allAtMost, unsound, anyUnsound};
@@ -10,6 +10,9 @@ pub const MAX_FLAGS: usize = 16777216;
 pub const IMG_BYTES: usize = 441000;
 
 pub const VOTE_CELLS: usize = 144000;
+
+// Sample rate that the detector works at.
+pub const WORKING_SAMPLE_RATE_HZ: f64 = 11025.0;
 
 // 2^62, the largest anchor and centre: a position added to it stays a 64-bit number.
 pub const MAX_ANCHOR: u64 = 4611686018427387904;

@@ -28,7 +28,7 @@ fn tone_at(spec: ModeSpec, start: f64, k: usize) -> f64
 {
     let separator = separator_seconds(spec);
     ieee::round(
-        start + ((k as f64) * spec.line_seconds + separator) * modespec::WORKING_SAMPLE_RATE_HZ,
+        start + ((k as f64) * spec.line_seconds + separator) * limits::WORKING_SAMPLE_RATE_HZ,
     )
 }
 

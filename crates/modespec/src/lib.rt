@@ -33,9 +33,6 @@ pub struct ModeSpec {
     pub sync_position: SyncPosition,
 }
 
-// Sample rate that the detector works at.
-pub const WORKING_SAMPLE_RATE_HZ: f64 = 11025.0;
-
 // Flags are this many samples apart.
 const SYNC_PROBE_STRIDE: f64 = 4.0;
 
@@ -326,7 +323,7 @@ pub fn window_lines(spec: ModeSpec) -> usize
 pub fn line_samples(spec: ModeSpec) -> f64
     ensures { λ r. ⌜ r ≡ Sizes.lineSamples spec ⌝ }
 {
-    spec.line_seconds * WORKING_SAMPLE_RATE_HZ
+    spec.line_seconds * limits::WORKING_SAMPLE_RATE_HZ
 }
 
 // w: the flags of one evaluation's window.

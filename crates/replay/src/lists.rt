@@ -49,12 +49,6 @@ pub fn behind_flags(bytes: &[u8]) -> usize
     size_at(bytes, 0) + 1
 }
 
-fn nearer(place: usize, end: usize) -> usize
-    ensures { λ r. ⌜ r ≤ end ⌝ }
-{
-    if place < end { place } else { end }
-}
-
 fn put(values: &[u8], first: usize, out: &mut [f32])
     requires { ⌜ first ≤ length (now out) ⌝ }
 {
@@ -69,7 +63,7 @@ fn piece(bytes: &[u8], k: usize, out: &mut [f32]) -> usize
     let first = size_at(bytes, k);
     let n = size_at(bytes, k + 1);
     let values = numbers(bytes, k + 2, n);
-    put(values, nearer(first, out.len()), out);
+    put(values, limits::min(first, out.len()), out);
     k + 2 + n
 }
 

@@ -176,7 +176,7 @@ impl Session {
         let spec = modespec::for_mode(mode);
         let report = sync::find_sync_in(
             &store[f..full],
-            modespec::WORKING_SAMPLE_RATE_HZ,
+            limits::WORKING_SAMPLE_RATE_HZ,
             spec,
             img,
             votes,

@@ -25,9 +25,12 @@ fn refused_by(code: u8, x: u64) -> bool {
     x != 0 && (code as u64) == x
 }
 
-// Whether a feed answers with the refusal that it is to have, or takes as many flags as it is to take.
-fn answered_by(code: u8, n: usize, x: u64, y: u64) -> bool {
-    (code as u64) == x && (x != 0 || (n as u64) == y)
+// Whether a feed is refused as it is to be, or takes as many flags as it is to take.
+fn answered_by(refused: bool, code: u8, n: usize, x: u64, y: u64) -> bool {
+    if refused {
+        return refused_by(code, x);
+    }
+    x == 0 && (n as u64) == y
 }
 
 // ---- open
@@ -90,9 +93,10 @@ fn kept(
     memory::samples_kept(audio, 4 * taken + 4, samples, 4 * n)
 }
 
-// What a feed answered: the session to go on with, the number of a refusal or 0, and the flags taken.
+// What a feed answered: the session to go on with, whether and by which number it was refused, and the flags taken.
 struct Told {
     session: Session,
+    refused: bool,
     code: u8,
     n: usize,
 }
@@ -101,11 +105,13 @@ fn heard(session: Session, answer: Fed) -> Told {
     match answer {
         Fed::Refused(code) => Told {
             session,
+            refused: true,
             code,
             n: 0,
         },
         Fed::Took(n, next) => Told {
             session: next,
+            refused: false,
             code: 0,
             n,
         },
@@ -115,7 +121,7 @@ fn heard(session: Session, answer: Fed) -> Told {
 // Whether a feed changed nothing where it was to be refused, and kept what it took where it was not.
 fn fed_right(
     session: Session,
-    was_refused: bool,
+    to_refuse: bool,
     n: usize,
     before: memory::Sums,
     store: &[u8],
@@ -125,7 +131,7 @@ fn fed_right(
     flags: &[u8],
     samples: &[f32],
 ) -> bool {
-    if was_refused {
+    if to_refuse {
         return memory::same_sums(before, memory::summed(true, store, audio, img, votes));
     }
     kept(session, store, audio, flags, samples, n)
@@ -160,7 +166,7 @@ pub fn fed(
     );
     Turn {
         session: next,
-        right: right & answered_by(told.code, told.n, x, y),
+        right: right & answered_by(told.refused, told.code, told.n, x, y),
     }
 }
 

@@ -76,7 +76,7 @@ pub fn picture(mode: u8) -> usize
     ensures { λ r. ⌜ PictureIs mode r ⌝ }
 {
     let spec = modespec::for_mode(mode);
-    modespec::image_probes(spec, modespec::WORKING_SAMPLE_RATE_HZ)
+    modespec::image_probes(spec, limits::WORKING_SAMPLE_RATE_HZ)
 }
 
 // f: the flag of a start, its position cut to whole flags.

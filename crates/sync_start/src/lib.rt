@@ -43,7 +43,7 @@ fn line_start(spec: ModeSpec, first: usize, column: usize, y: usize) -> f64
     let lines = std::num::nearest_u64_to_f64(y as u64) + (column as f64) / 700.0;
     let pulse = lines * spec.line_seconds;
     ((4 * first) as f64)
-        + (pulse - modespec::pulse_offset_seconds(spec)) * modespec::WORKING_SAMPLE_RATE_HZ
+        + (pulse - modespec::pulse_offset_seconds(spec)) * limits::WORKING_SAMPLE_RATE_HZ
 }
 
 // A picture begins on an even line: before an odd one there is another.
@@ -60,7 +60,7 @@ fn even_start(odd: bool, spec: ModeSpec, start: f64) -> f64
 fn position(spec: ModeSpec, start: f64) -> u64
     ensures { λ r. ⌜ r ≡ Evaluate.positionOf spec start ⌝ }
 {
-    let lead = START_LEAD_SYNC_PULSES * spec.sync_seconds * modespec::WORKING_SAMPLE_RATE_HZ;
+    let lead = START_LEAD_SYNC_PULSES * spec.sync_seconds * limits::WORKING_SAMPLE_RATE_HZ;
     ieee::to_u64(ieee::round(ieee::max(start - lead, 0.0)))
 }
 
