@@ -1,36 +1,66 @@
--- The rules of the angle tables (01-scope.md, "Angle tables"): what each table is tested for. Definitions only.
-use Prim.Native.Nat.{ℕ, _+_, _*_, _/_, _%_, _^_}
+-- The rules of the angle tables (01-scope.md, "Angle tables"): each as it stands at an entry, and as a test of a whole table. Definitions only.
+use mathlib.Core.Path.{_≡_}
+use Prim.Native.Nat.{ℕ, suc, _+_, _-_, _*_, _^_, _≤_, _<_}
 use mathlib.Core.Bool.{Bool, true, false, _&&_}
 use mathlib.Core.List.{List, [], _∷_}
-use lib.Dec.{leb, eqb}
+use lib.ListN.{getD}
+use lib.Dec.{leb}
 use lib.Ieee.{Float, nan, inf, fin, up, down, lt}
 
+-- ---- strictly falling
+
 -- each entry is above the one after it
+abbrev pub Falls : List Float → Type 0
+Falls table = (q : ℕ) → q < 239 → lt (getD table (suc q) nan) (getD table q nan) ≡ true
+
 unfoldable pub falls : List Float → Bool
 unfolding lt
 falls [] = true
 falls (x ∷ []) = true
 falls (x ∷ y ∷ xs) = lt y x && falls (y ∷ xs)
 
--- the magnitude in units of 2 ^ -110, and whether it is whole in them
-abbrev pub units : Float → ℕ
-units nan = 0
-units (inf s) = 0
-units (fin s m e) = m * up e * 2 ^ 110 / down e
+-- ---- the squares of sine and cosine
 
-abbrev pub exact : Float → Bool
-exact nan = false
-exact (inf s) = false
-exact (fin s m e) = eqb (m * up e * 2 ^ 110 % down e) 0
+abbrev pub finite : Float → Bool
+finite nan = false
+finite (inf s) = false
+finite (fin s m e) = true
 
--- a and b differ by d at most
-abbrev pub near : ℕ → ℕ → ℕ → Bool
-near a b d = leb a (b + d) && leb b (a + d)
+-- the magnitude of a finite number is the exact quotient of these two whole numbers
+abbrev pub numerator : Float → ℕ
+numerator nan = 0
+numerator (inf s) = 0
+numerator (fin s m e) = m * up e
 
--- the sum of the squares of two entries at one place is within 2 ^ -50 of 1: in units of 2 ^ -220, within 2 ^ 170 of 2 ^ 220, and nothing is rounded.
--- The lists are equally long.
+abbrev pub denominator : Float → ℕ
+denominator nan = 1
+denominator (inf s) = 1
+denominator (fin s m e) = down e
+
+-- x * x + y * y is the exact quotient of these two: the squares, and 1, counted in the same parts
+abbrev pub squares : Float → Float → ℕ
+squares x y = (numerator x * denominator y) ^ 2 + (numerator y * denominator x) ^ 2
+
+abbrev pub one : Float → Float → ℕ
+one x y = (denominator x * denominator y) ^ 2
+
+-- x * x + y * y is within 2 ^ -50 of 1
+pub record NearOne (x y : Float) : Type 0 where
+  pub finite₁ : finite x ≡ true
+  pub finite₂ : finite y ≡ true
+  pub above : (2 ^ 50 - 1) * one x y ≤ 2 ^ 50 * squares x y
+  pub below : 2 ^ 50 * squares x y ≤ (2 ^ 50 + 1) * one x y
+
+-- at each place
+abbrev pub Circle : List Float → List Float → Type 0
+Circle sines cosines = (q : ℕ) → q < 240 → NearOne (getD sines q nan) (getD cosines q nan)
+
+abbrev pub nearOne : Float → Float → Bool
+nearOne x y = finite x && finite y && leb ((2 ^ 50 - 1) * one x y) (2 ^ 50 * squares x y) && leb (2 ^ 50 * squares x y) ((2 ^ 50 + 1) * one x y)
+
+-- the lists are equally long
 unfoldable pub circle : List Float → List Float → Bool
 circle [] [] = true
 circle [] (y ∷ ys) = false
 circle (x ∷ xs) [] = false
-circle (x ∷ xs) (y ∷ ys) = exact x && exact y && near (units x * units x + units y * units y) (2 ^ 220) (2 ^ 170) && circle xs ys
+circle (x ∷ xs) (y ∷ ys) = nearOne x y && circle xs ys

@@ -2,7 +2,7 @@
 use Prim.Native.Nat.{ℕ}
 use mathlib.Core.List.{List, [], _∷_, map}
 use lib.Ieee.{Float, binary32, binary64, ofBits, add, mul, div, toUnsigned}
-use Rattle.ieee.specs.Numbers.{whole}
+use Rattle.ieee.specs.Numbers.{ofNat}
 
 -- re * re + im * im, of two `f32` as `f64`
 unfoldable pub powerOf : Float → Float → Float
@@ -10,7 +10,7 @@ powerOf re im = add binary64 (mul binary64 re re) (mul binary64 im im)
 
 -- cut(hz * 256 / 11,025): the bin of a frequency in a spectrum of 256 samples. `as` brings it to the range.
 unfoldable pub binOf : Float → ℕ
-binOf hz = toUnsigned 64 (div binary64 (mul binary64 hz (whole 256)) (whole 11025))
+binOf hz = toUnsigned 64 (div binary64 (mul binary64 hz (ofNat 256)) (ofNat 11025))
 
 -- `build_hann(16)`: the `f32` bits that the Rust gives on the comparing machine. They are not symmetric.
 unfoldable pub hannBits : List ℕ

@@ -6,7 +6,8 @@ use Prim.Native.Nat.{ℕ, zero, suc, _+_, _-_, _≤_, max}
 use native.Mathlib.Omega.{arith}
 use lib.Dec.{eqb}
 use lib.ListN.{getD}
-use Rattle.first_line.specs.Pulsed.{runWith, runTo, longestTo}
+use Rattle.first_line.specs.Pulsed.{runTo, longestTo}
+use Rattle.first_line.specs.Steps.{runWith}
 
 with-most : (b : Bool) (r n : ℕ) → r ≤ n → cond b 0 (r + 1) ≤ suc n
 with-most true r n h = omega arith

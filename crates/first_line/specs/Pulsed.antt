@@ -4,9 +4,9 @@ use mathlib.Core.Bool.{Bool, cond, false, _&&_}
 use mathlib.Core.List.{List}
 use lib.ListN.{getD, drop}
 use lib.Dec.{eqb, leb}
-use lib.IntN.{pos, negsuc}
+use lib.IntN.{pos}
 use lib.Ieee.{Float, fin, binary64, add, sub, mul, div, lt, le, isNan, toUnsigned}
-use Rattle.ieee.specs.Numbers.{whole}
+use Rattle.ieee.specs.Numbers.{ofNat, decimal}
 use Rattle.ieee.specs.Casts.{maximum}
 use Rattle.modespec.specs.declared.ModeSpec.{ModeSpec}
 use Rattle.modespec.specs.Sizes.{lineSamples, windowLines, workingRate}
@@ -23,32 +23,28 @@ minimum x y = cond (isNan x) y (cond (lt y x) y x)
 
 -- line samples / 4: the flags of a line
 unfoldable pub lineProbes : ModeSpec → Float
-lineProbes spec = div binary64 (lineSamples spec) (fin false 1 (pos 2))
+lineProbes spec = div binary64 (lineSamples spec) (ofNat 4)
 
 -- S × 11,025 / 4: the flags of a pulse
 unfoldable pub pulseProbes : ModeSpec → Float
-pulseProbes spec = div binary64 (mul binary64 (spec .«sync_seconds») workingRate) (fin false 1 (pos 2))
+pulseProbes spec = div binary64 (mul binary64 (spec .«sync_seconds») workingRate) (ofNat 4)
 
 -- where the pulse of line y lies, counted from a flags before the window's first: a + (y + column / 700) × line probes
 unfoldable pub pulseAt : Float → ℕ → ℕ → ℕ → Float
-pulseAt line a column y = add binary64 (whole a) (mul binary64 (linesAt y column) line)
+pulseAt line a column y = add binary64 (ofNat a) (mul binary64 (linesAt y column) line)
 
 -- the flags looked at around a pulse, from four before it to four behind it. The lower end is held at 0, and both are cut.
 unfoldable pub spanOf : Float → Float → Span
 spanOf pulse start =
     record {
-      lo = toUnsigned 64 (maximum (sub binary64 start (fin false 1 (pos 2))) (fin false 0 (pos 0)));
-      hi = toUnsigned 64 (add binary64 (add binary64 start pulse) (fin false 1 (pos 2)));
+      lo = toUnsigned 64 (maximum (sub binary64 start (ofNat 4)) (fin false 0 (pos 0)));
+      hi = toUnsigned 64 (add binary64 (add binary64 start pulse) (ofNat 4));
     }
-
--- a run with one flag more
-abbrev pub runWith : ℕ → ℕ → ℕ
-runWith run flag = cond (eqb flag 0) 0 (run + 1)
 
 -- the run of set flags that ends with the last of the n from lo on
 unfoldable pub runTo : List ℕ → ℕ → ℕ → ℕ
 runTo flags lo zero = 0
-runTo flags lo (suc n) = runWith (runTo flags lo n) (getD flags (lo + n) 0)
+runTo flags lo (suc n) = cond (eqb (getD flags (lo + n) 0) 0) 0 (runTo flags lo n + 1)
 
 -- the longest run of set flags among the n from lo on
 unfoldable pub longestTo : List ℕ → ℕ → ℕ → ℕ
@@ -57,17 +53,13 @@ longestTo flags lo (suc n) = max (longestTo flags lo n) (runTo flags lo (suc n))
 
 -- the length that makes a line pulsed: half the pulse, ten flags at most
 unfoldable pub runNeeded : Float → Float
-runNeeded pulse = minimum (mul binary64 (fin false 1 (negsuc 0)) pulse) (fin false 5 (pos 1))
-
--- a run of n flags is long enough
-unfoldable pub enough : Float → ℕ → Bool
-enough need n = le need (whole n)
+runNeeded pulse = minimum (mul binary64 (decimal 5 1) pulse) (ofNat 10)
 
 -- `line_is_pulsed`: the longest run around line y's pulse is long enough. The flags are those from a before the window's first on.
 unfoldable pub pulsedLine : Float → Float → List ℕ → ℕ → ℕ → ℕ → Bool
 pulsedLine line pulse flags a column y =
     let span = spanOf pulse (pulseAt line a column y) in
-    enough (runNeeded pulse) (longestTo flags (span .lo) (span .hi - span .lo))
+    le (runNeeded pulse) (ofNat (longestTo flags (span .lo) (span .hi - span .lo)))
 
 -- the first of the n lines from y on that passes a test
 unfoldable pub firstLine : (ℕ → Bool) → ℕ → ℕ → FirstLine

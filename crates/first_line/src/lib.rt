@@ -6,6 +6,7 @@ ghost use Prim.Native.Nat.{_-_, _^_, _≤_, _<_};
 ghost use lib.ListN.{length, getD};
 ghost use Rattle.modespec.specs.Sizes as Sizes;
 ghost use Rattle.first_line.specs.Pulsed as Pulsed;
+ghost use Rattle.first_line.specs.Steps as Steps;
 
 // The first line of a window that carries the pulse.
 pub enum FirstLine {
@@ -69,7 +70,7 @@ fn run_needed(pulse: f64) -> f64
 }
 
 fn is_enough(need: f64, longest: usize) -> bool
-    ensures { λ r. ⌜ r ≡ Pulsed.enough need longest ⌝ }
+    ensures { λ r. ⌜ r ≡ Steps.enough need longest ⌝ }
 {
     std::num::nearest_u64_to_f64(longest as u64) >= need
 }
@@ -89,7 +90,7 @@ fn span_at(line: f64, pulse: f64, a: usize, column: usize, y: usize) -> Span
 // The run of set flags that ends at flag i, from the one before it.
 fn run_on(flags: &[u8], i: usize, run: usize) -> usize
     requires { ⌜ run < 2 ^ 64 - 1 ⌝ }
-    ensures { λ r. ⌜ r ≡ Pulsed.runWith run (getD (now (flags .entry)) i 0) ⌝ }
+    ensures { λ r. ⌜ r ≡ Steps.runWith run (getD (now (flags .entry)) i 0) ⌝ }
 {
     if i < flags.len() {
         if flags[i] != 0 {

@@ -1,18 +1,18 @@
 -- What the proofs of `close` and `far` cite. Assumes nothing.
 use mathlib.Core.Path.{_≡_, refl, sym, ap, _∙_, subst}
 use mathlib.Core.Logic.{_⊎_, inl, inr}
-use mathlib.Core.Bool.{Bool, true, false, not, Bool·beq}
-use Prim.Native.Nat.{ℕ, zero, suc, _+_, _-_, _*_, _/_, _%_, _^_, _≤_, _<_}
-use native.Mathlib.Nat.{le-trans, le-of-eq, le-of-lt, lt-of-lt-of-le, lt-of-le-of-lt, lt-irrefl, zero-mul, add-zero, add-comm, add-mul, mul-comm, mul-assoc, mul-right-comm, mul-pos, mul-le-mul-right, mul-lt-mul-of-pos-right, eq-zero-or-pos, mod-eq-of-lt, le-add-right, le-add-left}
+use mathlib.Core.Bool.{Bool, false}
+use Prim.Native.Nat.{ℕ, _+_, _-_, _*_, _%_, _^_, _≤_, _<_}
+use native.Mathlib.Nat.{add-zero, add-comm, add-mul, mul-assoc, mul-lt-mul-of-pos-right}
 use native.Mathlib.Omega.{arith}
 use lib.IntN.{pos}
-use lib.Dec.{eqb, ltb, lit≤, lit<}
-use lib.Pow.{pow-add, pow-pos, shl-exact}
+use lib.Dec.{eqb}
+use lib.Pow.{pow-add, pow-pos}
 use lib.Bits.{bitOr}
 use lib.Arith.{digits-div, digits-mod}
-use lib.Ieee.{Float, fin, binary64, round, sum}
+use lib.Ieee.{Float, fin, binary64, round, sum, ofBits}
 use Rattle.ieee.proofs.Pack.{too-small}
-use Rattle.fma.specs.Near.{Near, exact, inside, Strong, Placed, Settled, Summed, Jammed}
+use Rattle.fma.specs.Near.{Near, exact, Placed, Settled, Summed, Jammed}
 use Rattle.fma.proofs.Cutting.{near-trans, near-cut, near-lt-back}
 use Rattle.fma.proofs.Sums.{sum-like, sum-less, sum-more, sum-none, sum-frac, signs-differ, Fine, add-near, sub-near, near-scale}
 
@@ -24,14 +24,11 @@ Given S i Z P = (Z * 2 ^ i ≡ S) ⊎ ((P % 2 ≡ 0) × (2 ^ 62 + Z ≤ P))
 
 pub settle-like : (s t P k Z W : ℕ) (r : Float) → s ≡ t → W ≡ P + Z → Placed s W k r → Settled s P k t Z r
 settle-like s t P k Z W r st w pl = record {
-  is = λ p S n g.
-      pl .value (some P Z W w p) (P * 2 ^ (k + 64) + S) (add-near P Z W S (k + 64) w n (fine S g))
+  is = λ S n g.
+      pl .value (P * 2 ^ (k + 64) + S) (add-near P Z W S (k + 64) w n (fine S g))
       ∙ sym (ap (λ (z : ℕ). sum binary64 (eqb s 1) (P * 2 ^ (k + 64)) (eqb z 1) S (2 ^ 2317)) (sym st) ∙ sum-like binary64 (eqb s 1) (P * 2 ^ (k + 64)) S (2 ^ 2317));
 }
   where
-    some : (P Z W : ℕ) → W ≡ P + Z → 0 < P → 0 < W
-    some P Z W a b = omega arith
-
     enough : (P Z W : ℕ) → W ≡ P + Z → 2 ^ 62 + Z ≤ P → 2 ^ 62 ≤ W
     enough P Z W a b = omega arith
 
@@ -40,13 +37,10 @@ settle-like s t P k Z W r st w pl = record {
     fine S (inr g) = inr (g .0, enough P Z W w (g .1))
 
 pub settle-less : (s t P k Z W : ℕ) (r : Float) → s < 2 → t < 2 → (s ≡ t → ⊥) → P < Z → W + P ≡ Z → Placed t W k r → Settled s P k t Z r
-settle-less s t P k Z W r a b d h w pl = record { is = λ p S n g. go S g }
+settle-less s t P k Z W r a b d h w pl = record { is = λ S n g. go S g }
   where
     none : (P Z : ℕ) → P < Z → 2 ^ 62 + Z ≤ P → ⊥
     none P Z x y = omega arith
-
-    some : (P Z W : ℕ) → W + P ≡ Z → P < Z → 0 < W
-    some P Z W x y = omega arith
 
     diff : (a b c : ℕ) → a + b ≡ c → a ≡ c - b
     diff a b c x = omega arith
@@ -55,13 +49,16 @@ settle-less s t P k Z W r a b d h w pl = record { is = λ p S n g. go S g }
     go S (inr g) = absurd (none P Z h (g .1))
     go S (inl e) =
         let U = 2 ^ (k + 64) in
-        pl .value (some P Z W w h) (W * U) (exact refl, inl refl)
+        pl .value (W * U) (exact refl, inl refl)
         ∙ ap (λ (z : ℕ). round binary64 (eqb t 1) z (2 ^ 2317)) (diff (W * U) (P * U) S (sym (add-mul W P U) ∙ ap (λ (z : ℕ). z * U) w ∙ e))
         ∙ sym (sum-less binary64 (eqb s 1) (eqb t 1) (P * U) S (2 ^ 2317) (signs-differ s t a b d) (subst (λ (z : ℕ). P * U < z) e (mul-lt-mul-of-pos-right h (pow-pos (k + 64)))))
 
-pub settle-more : (s t P k Z W : ℕ) (r : Float) → s < 2 → t < 2 → (s ≡ t → ⊥) → W + Z ≡ P → Placed s W k r → Settled s P k t Z r
-settle-more s t P k Z W r a b d w pl = record { is = λ p S n g. go S (eq-zero-or-pos W) (sub-near P Z W S (k + 64) w n (fine S g)) }
+pub settle-more : (s t P k Z W : ℕ) (r : Float) → s < 2 → t < 2 → (s ≡ t → ⊥) → Z < P → W + Z ≡ P → Placed s W k r → Settled s P k t Z r
+settle-more s t P k Z W r a b d h w pl = record { is = λ S n g. go S (sub-near P Z W S (k + 64) w n (fine S g)) }
   where
+    some : (P Z W : ℕ) → W + Z ≡ P → Z < P → 0 < W
+    some P Z W x y = omega arith
+
     enough : (P Z W : ℕ) → W + Z ≡ P → 2 ^ 62 + Z ≤ P → 2 ^ 62 ≤ W
     enough P Z W x y = omega arith
 
@@ -69,9 +66,25 @@ settle-more s t P k Z W r a b d w pl = record { is = λ p S n g. go S (eq-zero-o
     fine S (inl e) = inl e
     fine S (inr g) = inr (g .0, enough P Z W w (g .1))
 
-    go : (S : ℕ) → (W ≡ 0) ⊎ (0 < W) → Rattle.fma.proofs.Sums.Less P Z W S (k + 64) → r ≡ sum binary64 (eqb s 1) (P * 2 ^ (k + 64)) (eqb t 1) S (2 ^ 2317)
-    go S (inl z) l = pl .nothing z ∙ sym zero-round ∙ sym (sum-none binary64 (eqb s 1) (eqb t 1) (P * 2 ^ (k + 64)) S (2 ^ 2317) (signs-differ s t a b d) (sym (l .level z)))
-    go S (inr q) l = pl .value q (P * 2 ^ (k + 64) - S) (l .strong) ∙ sym (sum-more binary64 (eqb s 1) (eqb t 1) (P * 2 ^ (k + 64)) S (2 ^ 2317) (signs-differ s t a b d) (l .below q))
+    go : (S : ℕ) → Rattle.fma.proofs.Sums.Less P Z W S (k + 64) → r ≡ sum binary64 (eqb s 1) (P * 2 ^ (k + 64)) (eqb t 1) S (2 ^ 2317)
+    go S l = pl .value (P * 2 ^ (k + 64) - S) (l .strong) ∙ sym (sum-more binary64 (eqb s 1) (eqb t 1) (P * 2 ^ (k + 64)) S (2 ^ 2317) (signs-differ s t a b d) (l .below (some P Z W w h)))
+
+-- they undo each other
+pub settle-none : (s t P k Z : ℕ) → s < 2 → t < 2 → (s ≡ t → ⊥) → P ≤ Z → Z ≤ P → Settled s P k t Z (ofBits binary64 0)
+settle-none s t P k Z a b d x y = record { is = λ S n g. go S g }
+  where
+    same : (P Z : ℕ) → P ≤ Z → Z ≤ P → P ≡ Z
+    same P Z x y = omega arith
+
+    none : (P Z : ℕ) → P ≤ Z → 2 ^ 62 + Z ≤ P → ⊥
+    none P Z x y = omega arith
+
+    plus : ofBits binary64 0 ≡ fin false 0 (pos 0)
+    plus = unfold ofBits in refl
+
+    go : (S : ℕ) → Given S (k + 64) Z P → ofBits binary64 0 ≡ sum binary64 (eqb s 1) (P * 2 ^ (k + 64)) (eqb t 1) S (2 ^ 2317)
+    go S (inr g) = absurd (none P Z x (g .1))
+    go S (inl e) = plus ∙ sym zero-round ∙ sym (sum-none binary64 (eqb s 1) (eqb t 1) (P * 2 ^ (k + 64)) S (2 ^ 2317) (signs-differ s t a b d) (ap (λ (z : ℕ). z * 2 ^ (k + 64)) (same P Z x y) ∙ e))
 
 -- ---- 2 ^ 64 taken out of a sum
 pub sum-64 : (s t : Bool) (A B a b : ℕ) → A ≡ a * 2 ^ 64 → B ≡ b * 2 ^ 64 → sum binary64 s A t B (2 ^ 2317) ≡ sum binary64 s a t b (2 ^ 2253)
@@ -126,7 +139,7 @@ module _ (s t P k q d h u : ℕ) (r : Float) (qlo : 2 ^ 52 ≤ q) (qhi : q < 2 ^
       let pl' : Placed t W (d - 10) r = subst (λ (z : ℕ). Placed t z (d - 10) r) (tidy q u qhi) pl in
       record {
         is =
-            pl' .value (some q u qlo) (Q + S) (add-near (q * 2 ^ 10) u W S i refl (in-scale P k q d h u 10 n j g) (inr (even q, big q u qlo)))
+            pl' .value (Q + S) (add-near (q * 2 ^ 10) u W S i refl (in-scale P k q d h u 10 n j g) (inr (even q, big q u qlo)))
             ∙ ap (λ (z : ℕ). round binary64 (eqb t 1) z (2 ^ 2317)) (add-comm Q S)
             ∙ sym (sum-like binary64 (eqb t 1) S Q (2 ^ 2317))
             ∙ ap (λ (z : ℕ). sum binary64 (eqb z 1) S (eqb t 1) Q (2 ^ 2317)) (sym st)
@@ -138,9 +151,6 @@ module _ (s t P k q d h u : ℕ) (r : Float) (qlo : 2 ^ 52 ≤ q) (qhi : q < 2 ^
 
       tidy : (q u : ℕ) → q < 2 ^ 53 → 0 * 2 ^ 64 + (q * 2 ^ 10 % 2 ^ 64 + u) ≡ q * 2 ^ 10 + u
       tidy q u x = omega arith
-
-      some : (q u : ℕ) → 2 ^ 52 ≤ q → 0 < q * 2 ^ 10 + u
-      some q u x = omega arith
 
       big : (q u : ℕ) → 2 ^ 52 ≤ q → 2 ^ 62 ≤ q * 2 ^ 10 + u
       big q u x = omega arith
@@ -160,7 +170,7 @@ module _ (s t P k q d h u : ℕ) (r : Float) (qlo : 2 ^ 52 ≤ q) (qhi : q < 2 ^
       let w : 0 < W = some q h u qlo hh (j .small) in
       record {
         is =
-            pl' .value w (Q - S) (l .strong)
+            pl' .value (Q - S) (l .strong)
             ∙ sym (sum-less binary64 (eqb s 1) (eqb t 1) S Q (2 ^ 2317) (signs-differ s t a b df) (l .below w))
             ∙ sum-64 (eqb s 1) (eqb t 1) S Q (P * 2 ^ k) (q * 2 ^ d) (P-is P k q d h u 11 n j g) (q-is P k q d h u 11 n j g);
       }

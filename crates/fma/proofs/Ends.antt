@@ -1,22 +1,22 @@
 -- What the proof of `finish` cites. Assumes nothing.
 use mathlib.Core.Path.{_≡_, refl, sym, ap, _∙_, subst}
-use mathlib.Core.Bool.{Bool, true, false, not, cond}
-use Prim.Native.Nat.{ℕ, zero, suc, _+_, _-_, _*_, _/_, _%_, _^_, _≤_, _<_}
-use native.Mathlib.Nat.{le-trans, le-of-eq, le-refl, lt-of-lt-of-le, lt-of-le-of-lt, lt-irrefl, zero-add, mul-le-mul-left, mul-le-mul-right, mul-lt-mul-of-pos-right}
+use mathlib.Core.Bool.{Bool, false, cond}
+use Prim.Native.Nat.{ℕ, suc, _+_, _-_, _*_, _%_, _^_, _≤_, _<_}
+use native.Mathlib.Nat.{le-trans, le-refl, lt-of-lt-of-le, lt-irrefl, zero-add, mul-le-mul-left, mul-le-mul-right, mul-lt-mul-of-pos-right}
 use native.Mathlib.Omega.{arith}
 use lib.IntN.{pos}
 use lib.Dec.{lit≤, lit<}
-use lib.Pow.{pow-add, pow-pos, pow-mono, shl-exact}
-use lib.Ieee.{Float, inf, fin, binary64, round, ofFields, ofBits}
+use lib.Pow.{pow-pos, pow-mono, shl-exact}
+use lib.Ieee.{inf, fin, binary64, ofFields, ofBits}
 use lib.Ieee.Nearest.{closest}
 use Rattle.ieee.proofs.Pack.{fields, fields-top, closest-le, too-large, too-small}
-use Rattle.fma.specs.Near.{Near, Finished}
+use Rattle.fma.specs.Near.{Finished}
 use Rattle.fma.proofs.Sticky.{near-lt-pow, near-ge-pow, written-near}
 
 inf-bits : (s : Bool) → ofBits binary64 (cond s (2 ^ 63) 0 + 0x7ff0_0000_0000_0000) ≡ inf s
 inf-bits s = fields binary64 s 2047 0 (lit< tt) (lit< tt) ∙ fields-top binary64 s 2047 0 refl
 
-zero-bits : (s : Bool) → ofBits binary64 (cond s (2 ^ 63) 0 + 0) ≡ fin s 0 (pos 0)
+pub zero-bits : (s : Bool) → ofBits binary64 (cond s (2 ^ 63) 0 + 0) ≡ fin s 0 (pos 0)
 unfolding ofFields
 zero-bits s = fields binary64 s 0 0 (lit< tt) (lit< tt)
 
@@ -56,8 +56,8 @@ finish-mid v i n lo hi h g p =
     most : (k c : ℕ) → k ≤ 2045 → c ≤ 2 ^ 53 → k * 2 ^ 52 + c ≤ 0x7ff0_0000_0000_0000
     most k c x y = omega arith
 
-pub finish-low : (v i n : ℕ) → v < 2 ^ 63 → i ≤ 1232 → 1179 < i → n ≡ closest v (2 ^ (1243 - i)) → Finished v i n
-finish-low v i n hi h g p =
+pub finish-low : (v i n : ℕ) → v < 2 ^ 63 → i ≤ 1232 → n ≡ closest v (2 ^ (1243 - i)) → Finished v i n
+finish-low v i n hi h p =
     let sh = 1243 - i in
     let hi' : v < 2 ^ (53 + sh) = lt-of-lt-of-le hi (pow-mono (wide i h)) in
     let lo : 0 < 0 → 2 ^ (52 + sh) ≤ v = λ q. absurd (lt-irrefl 0 q) in

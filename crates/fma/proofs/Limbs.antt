@@ -2,10 +2,10 @@
 use mathlib.Core.Path.{_≡_, refl, sym, ap, _∙_, subst}
 use mathlib.Core.Bool.{Bool, true, false}
 use Prim.Native.Nat.{ℕ, zero, suc, _+_, _-_, _*_, _/_, _%_, _^_, _≤_, _<_}
-use native.Mathlib.Nat.{le-trans, le-of-eq, le-of-lt, lt-of-lt-of-le, lt-of-le-of-lt, lt-irrefl, zero-lt-suc, zero-add, add-zero, add-assoc, add-comm, add-left-comm, add-mul, mul-add, mul-one, mul-comm, mul-assoc, mul-left-comm, mul-pos, mul-le-mul-right, mul-lt-mul-of-pos-left, div-add-mod', le-of-suc-le-suc}
+use native.Mathlib.Nat.{le-trans, le-of-eq, le-of-lt, lt-of-lt-of-le, lt-of-le-of-lt, lt-irrefl, zero-add, add-zero, add-assoc, add-comm, add-left-comm, add-mul, mul-add, mul-one, mul-comm, mul-assoc, mul-left-comm, mul-le-mul-right, mul-lt-mul-of-pos-left, div-add-mod'}
 use native.Mathlib.Omega.{arith}
 use lib.Dec.{ltb, lit≤, lit<}
-use lib.Pow.{pow-add, pow-pos, pow-mono, pow-lt, shl-lt, shl-exact, shl-shr, shr-shr}
+use lib.Pow.{pow-add, pow-mono, shl-lt, shl-exact, shl-shr, shr-shr}
 use lib.Bits.{bitAnd, and-mask}
 use lib.Count.{leadingZeros, leading-top}
 use borrow.Author.Tests.{lt-ltb, le-ltb}
@@ -126,9 +126,9 @@ no-zero h = omega arith
 pub digits-normal : (e t : ℕ) → e < 2047 → t < 2 ^ 52 → 0 < e → Digits e t (t + 2 ^ 52) (e + 51)
 digits-normal zero t a b h = absurd (lt-irrefl 0 h)
 digits-normal (suc j) t a b h = record {
-  lo = native.Mathlib.Nat.le-add-left (2 ^ 52) t;
+  lo = λ p. native.Mathlib.Nat.le-add-left (2 ^ 52) t;
   hi = top t b;
-  least = most j a;
+  most = most j a;
   value = ap (λ (z : ℕ). (t + 2 ^ 52) * 2 ^ z) (shift j) ∙ ap (λ (z : ℕ). (t + 2 ^ 52) * z) (pow-add 2 j 52) ∙ sym (mul-assoc (t + 2 ^ 52) (2 ^ j) (2 ^ 52)) ∙ ap (λ (z : ℕ). z * 2 ^ j * 2 ^ 52) (add-comm t (2 ^ 52));
 }
   where
@@ -140,6 +140,11 @@ digits-normal (suc j) t a b h = record {
 
     shift : (j : ℕ) → suc j + 51 ≡ j + 52
     shift j = omega arith
+
+pub digits-none : (e t : ℕ) → e ≤ 0 → t ≤ 0 → Digits e t 0 0
+digits-none zero zero h k = record { lo = λ p. absurd (no-zero p); hi = lit< tt; most = lit≤ tt; value = refl }
+digits-none (suc e) t h k = absurd (no-zero h)
+digits-none zero (suc t) h k = absurd (no-zero k)
 
 -- a t above 0 with no leading digit: its highest is the j-th
 module _ (t : ℕ) (b : t < 2 ^ 52) (p : 0 < t) where
@@ -197,9 +202,9 @@ module _ (t : ℕ) (b : t < 2 ^ 52) (p : 0 < t) where
       subst (λ (k : ℕ). Digits 0 t (t * 2 ^ k % 2 ^ 64) (52 - k)) (sym n-is)
       (subst (λ (q : ℕ). Digits 0 t q (52 - (52 - z .0))) (sym (native.Mathlib.Nat.mod-eq-of-lt (lt-of-lt-of-le shifted-hi (lit≤ tt))))
       (record {
-        lo = shifted-lo;
+        lo = λ q. shifted-lo;
         hi = shifted-hi;
-        least = most (z .0);
+        most = most (z .0);
         value = mul-assoc t (2 ^ (52 - z .0)) (2 ^ (52 - (52 - z .0))) ∙ ap (λ (k : ℕ). t * k) (sym (pow-add 2 (52 - z .0) (52 - (52 - z .0))) ∙ ap (λ (k : ℕ). 2 ^ k) (all (z .0) j-lt)) ∙ ap (λ (k : ℕ). k * 2 ^ 52) (sym (mul-one t));
       }))
     where

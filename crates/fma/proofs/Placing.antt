@@ -1,19 +1,20 @@
 -- What the proof of `rounded` cites. Assumes nothing.
 use mathlib.Core.Path.{_≡_, refl, sym, ap, _∙_, subst}
 use mathlib.Core.Logic.{_⊎_, inl, inr}
-use mathlib.Core.Bool.{Bool, true, false, not, cond}
-use Prim.Native.Nat.{ℕ, zero, suc, _+_, _-_, _*_, _/_, _%_, _^_, _≤_, _<_}
-use native.Mathlib.Nat.{le-trans, le-of-eq, le-refl, lt-of-lt-of-le, lt-of-le-of-lt, lt-of-not-le, lt-irrefl, add-zero, add-mul, zero-mul, zero-add, mul-assoc, mul-comm, mul-right-comm, mul-pos, le-add-right, eq-of-mul-eq-mul-right, lt-of-mul-lt-mul-right, le-of-mul-le-mul-right, add-sub-of-le}
+use mathlib.Core.Bool.{Bool, not, cond}
+use Prim.Native.Nat.{ℕ, zero, suc, _+_, _-_, _*_, _%_, _^_, _≤_, _<_}
+use native.Mathlib.Nat.{le-trans, lt-of-lt-of-le, lt-of-le-of-lt, lt-of-not-le, lt-irrefl, add-zero, add-mul, zero-mul, mul-assoc, mul-comm, le-add-right, eq-of-mul-eq-mul-right, lt-of-mul-lt-mul-right, le-of-mul-le-mul-right, add-sub-of-le}
 use native.Mathlib.Omega.{arith}
 use lib.IntN.{pos}
-use lib.Dec.{T, eqb, lit≤, lit<}
+use lib.Dec.{T, eqb, lit<}
 use lib.Pow.{pow-add, pow-pos, pow-mono}
 use lib.Count.{leadingZeros, leading-top, leading-le}
-use lib.Ieee.{Float, fin, binary64, round, isNan, nanBits, ofBits}
+use lib.Ieee.{fin, binary64, round, isNan, nanBits, ofBits}
 use lib.Ieee.Bits.{nanBits-is}
-use Rattle.ieee.proofs.Pack.{round-no-nan}
+use Rattle.ieee.proofs.Pack.{round-no-nan, too-small}
 use Rattle.fma.specs.Near.{Near, exact, inside, Strong, Top, Finished, Placed}
 use Rattle.fma.proofs.Cutting.{near-trans, c-le}
+use Rattle.fma.proofs.Ends.{zero-bits}
 
 pub sign-bits : (s : ℕ) → s < 2 → s * 2 ^ 63 % 2 ^ 64 ≡ cond (eqb s 1) (2 ^ 63) 0
 sign-bits zero h = refl
@@ -23,14 +24,18 @@ sign-bits (suc (suc s)) h = absurd (go s h)
     go : (s : ℕ) → suc (suc s) < 2 → ⊥
     go s x = omega arith
 
-pub pattern-fits : (s r : ℕ) → s < 2 → r ≤ 0x7ff0_0000_0000_0000 → s * 2 ^ 63 % 2 ^ 64 + r < 2 ^ 64
-pattern-fits s r h k = omega arith
-
 pub pattern-no-nan : (s v i r : ℕ) → s < 2 → Finished v i r → T (not (nanBits binary64 (s * 2 ^ 63 % 2 ^ 64 + r)))
 pattern-no-nan s v i r h f =
     subst (λ (b : Bool). T (not b))
     (sym (nanBits-is binary64 (s * 2 ^ 63 % 2 ^ 64 + r) ∙ ap isNan (ap (λ (z : ℕ). ofBits binary64 (z + r)) (sign-bits s h) ∙ f .value (eqb s 1) (v * 2 ^ i) (exact refl))))
     (round-no-nan binary64 (eqb s 1) (v * 2 ^ i) (2 ^ 2317))
+
+-- a sign alone is a zero's pattern
+sign-only : (s : ℕ) → s < 2 → ofBits binary64 (s * 2 ^ 63 % 2 ^ 64) ≡ fin (eqb s 1) 0 (pos 0)
+sign-only s h = ap (λ (z : ℕ). ofBits binary64 z) (sign-bits s h ∙ sym (add-zero (cond (eqb s 1) (2 ^ 63) 0))) ∙ zero-bits (eqb s 1)
+
+pub sign-no-nan : (s : ℕ) → s < 2 → T (not (nanBits binary64 (s * 2 ^ 63 % 2 ^ 64)))
+sign-no-nan s h = subst (λ (b : Bool). T (not b)) (sym (nanBits-is binary64 (s * 2 ^ 63 % 2 ^ 64) ∙ ap isNan (sign-only s h))) (unfold isNan in tt)
 
 -- ---- the same with 2 ^ 64 taken out of both sides
 unscale : (w n v u : ℕ) → u ≡ w * 2 ^ 64 → Near u (64 + n) v → Near w n v
@@ -69,17 +74,13 @@ module _ (sign hi lo j : ℕ) (sg : sign < 2) (H : hi < 2 ^ 64) (L : lo < 2 ^ 64
   -- the upper limb is not 0
   pub place-high : (c v r : ℕ) → 0 < hi → c ≡ leadingZeros 64 hi → Top hi lo c v → Finished v (j + 129 - c) r → Placed sign (hi * 2 ^ 64 + lo) j (ofBits binary64 (sign * 2 ^ 63 % 2 ^ 64 + r))
   place-high c v r p zc t f = record {
-    value = λ q S st.
+    value = λ S st.
         ap (λ (z : ℕ). ofBits binary64 (z + r)) (sign-bits sign sg)
         ∙ f .value (eqb sign 1) S (subst (λ (k : ℕ). Near S k v) (at j c (c-le hi lo c H L p zc)) (near-trans S (j + 64) (hi * 2 ^ 64 + lo) (65 - c) v (st .0) (t .near)));
-    nothing = λ e. absurd (none hi lo p e);
   }
     where
       at : (j c : ℕ) → c ≤ 63 → j + 64 + (65 - c) ≡ j + 129 - c
       at j c x = omega arith
-
-      none : (a b : ℕ) → 0 < a → a * 2 ^ 64 + b ≡ 0 → ⊥
-      none a b x y = omega arith
 
   -- it is 0, and the lower is not
   few : (c : ℕ) → 0 < lo → c ≡ leadingZeros 64 lo → 2 ^ 62 ≤ lo → c ≤ 1
@@ -103,8 +104,7 @@ module _ (sign hi lo j : ℕ) (sg : sign < 2) (H : hi < 2 ^ 64) (L : lo < 2 ^ 64
   place-low c v r h p zc t f =
       let small : c ≤ 63 = c-le lo 0 c L (pow-pos 64) p zc in
       record {
-        value = λ q S st. ap (λ (z : ℕ). ofBits binary64 (z + r)) (sign-bits sign sg) ∙ f .value (eqb sign 1) S (go S small (subst (λ (w : ℕ). Strong S (j + 64) w) (lo-only h) st));
-        nothing = λ e. absurd (lt-irrefl 0 (subst (λ (z : ℕ). 0 < z) (sym (lo-only h) ∙ e) p));
+        value = λ S st. ap (λ (z : ℕ). ofBits binary64 (z + r)) (sign-bits sign sg) ∙ f .value (eqb sign 1) S (go S small (subst (λ (w : ℕ). Strong S (j + 64) w) (lo-only h) st));
       }
     where
       at1 : (j c : ℕ) → c ≤ 63 → j + (65 - c) ≡ j + 65 - c
@@ -126,8 +126,15 @@ module _ (sign hi lo j : ℕ) (sg : sign < 2) (H : hi < 2 ^ 64) (L : lo < 2 ^ 64
           (near-trans S (j + 64) lo (1 - c) v n (unscale lo (1 - c) v (lo * 2 ^ 64 + 0) (add-zero (lo * 2 ^ 64)) (subst (λ (k : ℕ). Near (lo * 2 ^ 64 + 0) k v) (at3 c c1) (t .near))))
 
   -- both are 0
-  pub place-none : hi ≤ 0 → lo ≤ 0 → Placed sign (hi * 2 ^ 64 + lo) j (ofBits binary64 0)
-  place-none h l = record { value = λ q S st. absurd (go hi lo h l q); nothing = λ e. unfold ofBits in refl }
+  pub place-none : hi ≤ 0 → lo ≤ 0 → Placed sign (hi * 2 ^ 64 + lo) j (ofBits binary64 (sign * 2 ^ 63 % 2 ^ 64))
+  place-none h l = record { value = λ S st. sign-only sign sg ∙ sym (too-small binary64 (eqb sign 1) 0 (2 ^ 2317) (pow-pos 2317) (pow-pos 2317)) ∙ ap (λ (z : ℕ). round binary64 (eqb sign 1) z (2 ^ 2317)) (none S (st .1)) }
     where
-      go : (a b : ℕ) → a ≤ 0 → b ≤ 0 → 0 < a * 2 ^ 64 + b → ⊥
-      go a b x y z = omega arith
+      no-limbs : (a b : ℕ) → a ≤ 0 → b ≤ 0 → a * 2 ^ 64 + b ≡ 0
+      no-limbs a b x y = omega arith
+
+      small : (W : ℕ) → W ≡ 0 → 2 ^ 62 ≤ W → ⊥
+      small W x y = omega arith
+
+      none : (S : ℕ) → ((hi * 2 ^ 64 + lo) * 2 ^ (j + 64) ≡ S) ⊎ (2 ^ 62 ≤ hi * 2 ^ 64 + lo) → 0 ≡ S
+      none S (inl e) = sym (zero-mul (2 ^ (j + 64))) ∙ ap (λ (z : ℕ). z * 2 ^ (j + 64)) (sym (no-limbs hi lo h l)) ∙ e
+      none S (inr b) = absurd (small (hi * 2 ^ 64 + lo) (no-limbs hi lo h l) b)

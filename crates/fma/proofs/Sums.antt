@@ -1,15 +1,14 @@
 -- Sums and differences of a number P * 2 ^ i and one for which Z * 2 ^ i stands, and `sum` opened. Assumes nothing.
 use mathlib.Core.Path.{_≡_, refl, sym, ap, _∙_, subst}
 use mathlib.Core.Logic.{_⊎_, inl, inr}
-use mathlib.Core.Bool.{Bool, true, false, not, _&&_, Bool·beq, cond}
+use mathlib.Core.Bool.{Bool, true, false, _&&_, Bool·beq, cond}
 use Prim.Native.Nat.{ℕ, zero, suc, _+_, _-_, _*_, _/_, _%_, _^_, _≤_, _<_}
-use native.Mathlib.Nat.{le-trans, le-of-eq, le-of-lt, le-refl, lt-of-lt-of-le, lt-of-le-of-lt, lt-irrefl, zero-mul, add-mul, add-assoc, add-comm, mul-comm, mul-assoc, mul-left-comm, mul-right-comm, mul-pos, mul-le-mul-right, mul-lt-mul-of-pos-right, pow-succ', lt-of-mul-lt-mul-right, eq-of-mul-eq-mul-right, mul-sub}
+use native.Mathlib.Nat.{le-of-eq, le-of-lt, lt-of-lt-of-le, zero-mul, add-mul, add-assoc, mul-comm, mul-assoc, mul-left-comm, mul-pos, mul-lt-mul-of-pos-right, pow-succ', lt-of-mul-lt-mul-right, eq-of-mul-eq-mul-right, mul-sub}
 use native.Mathlib.Omega.{arith}
-use lib.IntN.{pos}
-use lib.Dec.{T, eqb, ltb}
+use lib.Dec.{eqb, ltb}
 use lib.Pow.{pow-add, pow-pos}
 use borrow.Author.Tests.{lt-ltb, le-ltb}
-use lib.Ieee.{Float, fin, Format, binary64, round, sum}
+use lib.Ieee.{Format, round, sum}
 use lib.Ieee.Scale.{round-same}
 use Rattle.ieee.proofs.Closest.{Cmp, cmp}
 use Rattle.fma.specs.Near.{Near, exact, inside, Strong}
@@ -134,7 +133,6 @@ add-near P Z W S i w (inside h r v e p l) (inr g) = (
 pub record Less (P Z W S i : ℕ) : Type 0 where
   pub strong : Strong (P * 2 ^ i - S) i W
   pub below : 0 < W → S < P * 2 ^ i
-  pub level : W ≡ 0 → S ≡ P * 2 ^ i
 
 sub-exact : (P Z W S i : ℕ) → W + Z ≡ P → Z * 2 ^ i ≡ S → Less P Z W S i
 sub-exact P Z W S i w e =
@@ -143,7 +141,6 @@ sub-exact P Z W S i w e =
     record {
       strong = (exact y, inl y);
       below = λ h. less (W * 2 ^ i) S (P * 2 ^ i) x (mul-pos h (pow-pos i));
-      level = λ h. same (W * 2 ^ i) S (P * 2 ^ i) x (ap (λ (z : ℕ). z * 2 ^ i) h ∙ zero-mul (2 ^ i));
     }
   where
     diff : (a b c : ℕ) → a + b ≡ c → a ≡ c - b
@@ -151,9 +148,6 @@ sub-exact P Z W S i w e =
 
     less : (a b c : ℕ) → a + b ≡ c → 0 < a → b < c
     less a b c h k = omega arith
-
-    same : (a b c : ℕ) → a + b ≡ c → a ≡ 0 → b ≡ c
-    same a b c h k = omega arith
 
 pub sub-near : (P Z W S i : ℕ) → W + Z ≡ P → Near S i Z → Fine S i Z P W → Less P Z W S i
 sub-near P Z W S i w n (inl e) = sub-exact P Z W S i w e
@@ -168,7 +162,6 @@ sub-near P Z W S i w (inside h r v e p l) (inr g) =
     record {
       strong = (inside k (U - r) (whole P (P / 2) Z h W even v w (g .1)) d (rest U r l) (rest-lt U r p l), inr (g .1));
       below = λ q. under (P * 2 ^ i) S (k * U) (h * U) U r (big ∙ opened) e l;
-      level = λ q. absurd (none W q (g .1));
     }
   where
     parts : (P p Z h W : ℕ) → P ≡ 2 * p → Z ≡ 2 * h + 1 → W + Z ≡ P → 2 ^ 62 ≤ W → p ≡ p - h - 1 + h + 1
@@ -188,9 +181,6 @@ sub-near P Z W S i w (inside h r v e p l) (inr g) =
 
     rest-lt : (U r : ℕ) → 0 < r → r < U → U - r < U
     rest-lt U r a b = omega arith
-
-    none : (W : ℕ) → W ≡ 0 → 2 ^ 62 ≤ W → ⊥
-    none W a b = omega arith
 
 -- ---- both sides times 2 ^ m
 pub near-scale : (S n X m : ℕ) → Near S n X → Near (S * 2 ^ m) (n + m) X

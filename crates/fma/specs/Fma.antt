@@ -1,4 +1,4 @@
--- Rust's fused multiply-add as a total function on the logic's floats (`lib.Ieee`). Definitions only.
+-- IEEE 754's fused multiply-add (01-scope.md, "Fused multiply-add and parity"), as a total function on the logic's floats (`lib.Ieee`). Definitions only.
 use Prim.Native.Nat.{_*_}
 use mathlib.Core.Bool.{cond}
 use lib.Dec.{eqb}

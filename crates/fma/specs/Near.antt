@@ -1,13 +1,11 @@
--- Numbers rounded to odd, and what the helpers of `mul_add` ensure. Definitions only.
+-- What the inner functions of `mul_add` ensure (for 01-scope.md, "Fused multiply-add and parity"), and numbers rounded to odd. Definitions only.
 use mathlib.Core.Path.{_≡_}
-use mathlib.Core.Bool.{Bool, cond, true, not}
-use Prim.Native.Nat.{ℕ, zero, suc, _+_, _-_, _*_, _/_, _%_, _^_, _≤_, _<_}
+use mathlib.Core.Bool.{Bool, cond, true, false, not}
+use Prim.Native.Nat.{ℕ, suc, _+_, _-_, _*_, _/_, _%_, _^_, _≤_, _<_}
 use Rattle.ieee.specs.Patterns.{lead, expo}
 use mathlib.Core.Logic.{_⊎_}
-use mathlib.Core.Bool.{false}
 use lib.Dec.{T, eqb}
-use lib.IntN.{pos}
-use lib.Ieee.{Float, nan, inf, fin, Format, binary64, round, sum, isNan, toBits, ofBits}
+use lib.Ieee.{Float, nan, inf, binary64, round, sum, isNan, toBits, ofBits}
 
 -- X * 2 ^ i stands for S: it is S, or X is odd, 2 * h + 1, and S lies strictly between the even numbers beside it, times 2 ^ i.
 -- Whatever rounds at a multiple of 2 * 2 ^ i rounds S and X * 2 ^ i alike.
@@ -31,51 +29,48 @@ pub record Top (a b c r : ℕ) : Type 0 where
   pub hi : r < 2 ^ 63
   pub near : Near (a * 2 ^ 64 + b) (65 - c) r
 
--- q has 53 digits, and q * 2 ^ k is 2 ^ 52 times the value, in units, of an exponent's field e and the digits t
+-- q has 53 digits, or is 0, and q * 2 ^ k is 2 ^ 52 times the value, in units, of an exponent's field e and the digits t
 pub record Digits (e t q k : ℕ) : Type 0 where
-  pub lo : 2 ^ 52 ≤ q
+  pub lo : 0 < q → 2 ^ 52 ≤ q
   pub hi : q < 2 ^ 53
-  pub least : k ≤ 2097
+  pub most : k ≤ 2097
   pub value : q * 2 ^ k ≡ lead binary64 e t * 2 ^ expo e * 2 ^ 52
 
 -- W * 2 ^ i stands for S, and where it is not S itself, W has 63 digits at least
 abbrev pub Strong : ℕ → ℕ → ℕ → Type 0
 Strong S i W = Near S i W × ((W * 2 ^ i ≡ S) ⊎ (2 ^ 62 ≤ W))
 
--- r is each S / 2 ^ 2317 rounded for which W * 2 ^ (j + 64) stands, and +0 where W is 0
+-- r is each S / 2 ^ 2317 rounded for which W * 2 ^ (j + 64) stands
 pub record Placed (sign W j : ℕ) (r : Float) : Type 0 where
-  pub value : 0 < W → (S : ℕ) → Strong S (j + 64) W → r ≡ round binary64 (eqb sign 1) S (2 ^ 2317)
-  pub nothing : W ≡ 0 → r ≡ fin false 0 (pos 0)
+  pub value : (S : ℕ) → Strong S (j + 64) W → r ≡ round binary64 (eqb sign 1) S (2 ^ 2317)
 
 -- r is ±P * 2 ^ k / 2 ^ 2253 + ±q * 2 ^ d / 2 ^ 2253, rounded once. A sign of 1 is that of a negative value
 pub record Summed (s P k t q d : ℕ) (r : Float) : Type 0 where
   pub is : r ≡ sum binary64 (eqb s 1) (P * 2 ^ k) (eqb t 1) (q * 2 ^ d) (2 ^ 2253)
 
--- a is even, of 54 digits, and b has 53
+-- a is even, of 54 digits, and b has 53. Each may also be 0
 pub record Factors (a b : ℕ) : Type 0 where
   pub even : a % 2 ≡ 0
-  pub a-lo : 2 ^ 53 ≤ a
+  pub a-lo : 0 < a → 2 ^ 53 ≤ a
   pub a-hi : a < 2 ^ 54
-  pub b-lo : 2 ^ 52 ≤ b
+  pub b-lo : 0 < b → 2 ^ 52 ≤ b
   pub b-hi : b < 2 ^ 53
 
 -- r is ±P * 2 ^ k / 2 ^ 2253 + ±S / 2 ^ 2317, rounded once, for each S for which Z * 2 ^ (k + 64) stands: exactly, or P is even, and far above Z
 pub record Settled (s P k t Z : ℕ) (r : Float) : Type 0 where
-  pub is : 0 < P → (S : ℕ) → Near S (k + 64) Z → (Z * 2 ^ (k + 64) ≡ S) ⊎ ((P % 2 ≡ 0) × (2 ^ 62 + Z ≤ P)) → r ≡ sum binary64 (eqb s 1) (P * 2 ^ (k + 64)) (eqb t 1) S (2 ^ 2317)
+  pub is : (S : ℕ) → Near S (k + 64) Z → (Z * 2 ^ (k + 64) ≡ S) ⊎ ((P % 2 ≡ 0) × (2 ^ 62 + Z ≤ P)) → r ≡ sum binary64 (eqb s 1) (P * 2 ^ (k + 64)) (eqb t 1) S (2 ^ 2317)
 
--- b is the pattern of a value that is finite and not zero
-pub record Usual (b : ℕ) : Type 0 where
+-- b is the pattern of a finite value
+pub record Finite (b : ℕ) : Type 0 where
   pub fits : b < 2 ^ 64
-  pub finite : b / 2 ^ 52 % 2 ^ 11 < 2047
-  pub some : 0 < b / 2 ^ 52 % 2 ^ 11 + b % 2 ^ 52
+  pub below : b / 2 ^ 52 % 2 ^ 11 < 2047
 
--- a NaN, an infinity or a zero
+-- a NaN or an infinity
 pub data Special (x : Float) : Type 0 where
   is-nan : x ≡ nan → Special x
   is-inf : (s : Bool) → x ≡ inf s → Special x
-  is-zero : (s : Bool) → x ≡ fin s 0 (pos 0) → Special x
 
--- r says whether x is finite and not zero
+-- r says whether x is finite
 pub record Sorted (x : Float) (r : Bool) : Type 0 where
-  pub usual : r ≡ true → T (not (isNan x)) × Usual (toBits binary64 x)
+  pub finite : r ≡ true → T (not (isNan x)) × Finite (toBits binary64 x)
   pub special : r ≡ false → Special x

@@ -3,12 +3,12 @@ ghost use mathlib.Core.Path.{_≡_};
 ghost use Prim.Native.Nat.{_+_, _*_, _-_, _≤_, _<_, _^_};
 ghost use lib.Count.{leadingZeros};
 ghost use lib.Dec.{ltb, eqb};
-ghost use Rattle.fma.specs.Near.{Near, Jammed, Top, Digits, Finished, Placed, Summed, Settled, Factors, Sorted, Usual};
+ghost use Rattle.fma.specs.Near.{Near, Jammed, Top, Digits, Finished, Placed, Summed, Settled, Factors, Sorted, Finite};
 ghost use Rattle.fma.specs.Fma.{fma};
 ghost use lib.Ieee as Ieee;
 ghost use lib.Ieee.{binary64, unlike};
 
-// A value q * 2^k / 2^1126, with 2^52 <= q < 2^53.
+// A value q * 2^k / 2^1126, with 2^52 <= q < 2^53, or q = 0.
 struct Parts {
     q: u64,
     k: u64,
@@ -20,19 +20,14 @@ struct Wide {
     lo: u64,
 }
 
-// Whether x is finite and not zero.
-fn plain(x: f64) -> bool
+// Whether x is finite.
+fn finite(x: f64) -> bool
     ensures { λ r. ⌜ Sorted x r ⌝ }
 {
     if x != x {
         false
     } else {
-        let m: u64 = f64::to_bits(x) & 0x7fff_ffff_ffff_ffff;
-        if m == 0 {
-            false
-        } else {
-            m < 0x7ff0_0000_0000_0000
-        }
+        (f64::to_bits(x) & 0x7fff_ffff_ffff_ffff) < 0x7ff0_0000_0000_0000
     }
 }
 
@@ -56,9 +51,9 @@ fn jam(w: u64, n: u64) -> u64
     }
 }
 
-// The value of an exponent's field e and digits t, with 53 digits.
+// The value of an exponent's field e and digits t, with 53 digits, or 0.
 fn digits_of(e: u64, t: u64) -> Parts
-    requires { ⌜ (e < 2047) × (t < 2 ^ 52) × (0 < e + t) ⌝ }
+    requires { ⌜ (e < 2047) × (t < 2 ^ 52) ⌝ }
     ensures { λ r. ⌜ Digits e t (r .q) (r .k) ⌝ }
 {
     if e > 0 {
@@ -66,12 +61,14 @@ fn digits_of(e: u64, t: u64) -> Parts
             q: t + 0x10_0000_0000_0000,
             k: e + 51,
         }
-    } else {
+    } else if t > 0 {
         let n: u64 = (u64::leading_zeros(t) as u64) - 11;
         Parts {
             q: t << n,
             k: 52 - n,
         }
+    } else {
+        Parts { q: 0, k: 0 }
     }
 }
 
@@ -189,7 +186,7 @@ fn finish(v: u64, i: u64) -> u64
     }
 }
 
-// The `f64` nearest to (hi * 2^64 + lo) * 2^j / 2^2253, with a sign of 0 or 1.
+// The `f64` nearest to (hi * 2^64 + lo) * 2^j / 2^2253, with a sign of 0 or 1, which a zero has too.
 fn rounded(sign: u64, hi: u64, lo: u64, j: u64) -> f64
     requires { ⌜ (sign < 2) × (j < 2 ^ 32) ⌝ }
     ensures { λ r. ⌜ Placed sign (hi * 2 ^ 64 + lo) j r ⌝ }
@@ -203,7 +200,7 @@ fn rounded(sign: u64, hi: u64, lo: u64, j: u64) -> f64
         let v: u64 = top63(lo, 0, c);
         f64::from_bits((sign << 63) + finish(v, j + 65 - c))
     } else {
-        0.0
+        f64::from_bits(sign << 63)
     }
 }
 
@@ -227,7 +224,7 @@ fn far(s: u64, ph: u64, pl: u64, k: u64, t: u64, q: u64, d: u64) -> f64
     }
 }
 
-// The sum of the two, each with its sign, as two limbs.
+// The sum of the two, each with its sign, as two limbs. Where they undo each other it is +0.
 fn close(s: u64, ph: u64, pl: u64, k: u64, t: u64, zh: u64, zl: u64) -> f64
     requires { ⌜ (s < 2) × (t < 2) × (ph < 2 ^ 43) × (zh < 2 ^ 63) × (k < 2 ^ 32) ⌝ }
     ensures { λ r. ⌜ Settled s (ph * 2 ^ 64 + pl) k t (zh * 2 ^ 64 + zl) r ⌝ }
@@ -238,21 +235,28 @@ fn close(s: u64, ph: u64, pl: u64, k: u64, t: u64, zh: u64, zl: u64) -> f64
     } else if wide_less(ph, pl, zh, zl) {
         let w: Wide = wide_sub(zh, zl, ph, pl);
         rounded(t, w.hi, w.lo, k)
-    } else {
+    } else if wide_less(zh, zl, ph, pl) {
         let w: Wide = wide_sub(ph, pl, zh, zl);
         rounded(s, w.hi, w.lo, k)
+    } else {
+        0.0
     }
 }
 
-// a * b * 2^k / 2^2253 with the sign s, and q * 2^d / 2^2253 with the sign t, for an even a of 54 digits and b and q of 53.
+// a * b * 2^k / 2^2253 with the sign s, and q * 2^d / 2^2253 with the sign t, for an even a of 54 digits and b and q of 53, or 0.
+// A zero is added in the places of the other value: its own say nothing.
 fn combined(s: u64, a: u64, b: u64, k: u64, t: u64, q: u64, d: u64) -> f64
-    requires { ⌜ (s < 2) × (t < 2) × Factors a b × (2 ^ 52 ≤ q) × (q < 2 ^ 53) × (k < 2 ^ 31) × (d < 2 ^ 31) ⌝ }
+    requires { ⌜ (s < 2) × (t < 2) × Factors a b × (0 < q → 2 ^ 52 ≤ q) × (q < 2 ^ 53) × (k < 2 ^ 31) × (d < 2 ^ 31) ⌝ }
     ensures { λ r. ⌜ Summed s (a * b) k t q d r ⌝ }
 {
     let p: Wide = wide_mul(a, b);
     let ph: u64 = p.hi;
     let pl: u64 = p.lo;
-    if d > k + 74 {
+    if ph == 0 {
+        close(s, ph, pl, d, t, 0, q)
+    } else if q == 0 {
+        close(s, ph, pl, k, t, 0, 0)
+    } else if d > k + 74 {
         far(s, ph, pl, k, t, q, d)
     } else if d >= k {
         let z: Wide = wide_shl(q, d - k);
@@ -264,9 +268,9 @@ fn combined(s: u64, a: u64, b: u64, k: u64, t: u64, q: u64, d: u64) -> f64
     }
 }
 
-// The three values are finite and not zero, with the patterns bx, by and bz.
-fn ordinary(bx: u64, by: u64, bz: u64) -> f64
-    requires { ⌜ Usual bx × Usual by × Usual bz ⌝ }
+// The three values are finite, with the patterns bx, by and bz.
+fn fused(bx: u64, by: u64, bz: u64) -> f64
+    requires { ⌜ Finite bx × Finite by × Finite bz ⌝ }
     ensures { λ r. ⌜ r ≡ fma binary64 (Ieee.ofBits binary64 bx) (Ieee.ofBits binary64 by) (Ieee.ofBits binary64 bz) ⌝ }
 {
     let px: Parts = digits_of((bx >> 52) & 0x7ff, bx & 0xf_ffff_ffff_ffff);
@@ -286,12 +290,10 @@ fn ordinary(bx: u64, by: u64, bz: u64) -> f64
 pub fn mul_add(x: f64, y: f64, z: f64) -> f64
     ensures { λ r. ⌜ r ≡ fma binary64 x y z ⌝ }
 {
-    if plain(x) {
-        if plain(y) {
-            if plain(z) {
-                ordinary(f64::to_bits(x), f64::to_bits(y), f64::to_bits(z))
-            } else if z == 0.0 {
-                x * y
+    if finite(x) {
+        if finite(y) {
+            if finite(z) {
+                fused(f64::to_bits(x), f64::to_bits(y), f64::to_bits(z))
             } else {
                 z
             }

@@ -2,20 +2,22 @@
 -- on such lists hold of it.
 -- Assumes nothing.
 use mathlib.Core.Path.{_≡_, refl, sym, _∙_, ap, subst}
-use mathlib.Core.Bool.{Bool, true, false, cond}
-use mathlib.Core.List.{List, [], _∷_, List·Memᴰ}
-use Prim.Native.Nat.{ℕ, _-_}
+use mathlib.Core.Bool.{false}
+use mathlib.Core.List.{List, _∷_, List·Memᴰ}
+use Prim.Native.Nat.{ℕ}
 use native.Mathlib.Omega.{arith}
 use lib.Dec.{eqb}
 use lib.ListN.{length, getD}
 use lib.Ieee.{Float}
-use borrow.Author.Tests.{eqb-false, ne-eqb}
+use borrow.Author.Tests.{ne-eqb}
 use Rattle.hough.specs.declared.SlantDeg.the-variants.{None, Degrees}
 use Rattle.plain.specs.declared.End.{End}
 use Rattle.plain.specs.declared.End.the-variants as end
-use Rattle.plain.specs.Plain.{Plain, opened, through}
-use Rattle.plain.specs.Point.{Point, pointOf, pointLess, endStage}
-use Rattle.plain.specs.Calls.{Lengths, Call, feed, read, Answer, took, gave, refused, answer, answers, after, runTo, feedCode, readCode}
+use Rattle.plain.specs.declared.Phase.{Phase}
+use Rattle.plain.specs.declared.Phase.the-variants.{Searching, Collecting, Reported, Unfound, CutShort}
+use Rattle.plain.specs.Plain.{opened}
+use Rattle.plain.specs.Point.{pointOf, pointLess, endStage, FromAnchor}
+use Rattle.plain.specs.Calls.{Call, read, Answer, gave, refused, answers, runTo}
 use Rattle.session.specs.declared.Session.{Session}
 use Rattle.session.specs.declared.Opened.{Opened}
 use Rattle.session.specs.declared.Opened.the-variants as op
@@ -24,44 +26,20 @@ use Rattle.session.specs.declared.Fed.the-variants as fed
 use Rattle.session.specs.declared.Given.{Given}
 use Rattle.session.specs.declared.Given.the-variants as given
 use Rattle.session.specs.Hold as hold
-use Rattle.session.specs.Hold.{Holds, OpenMeets, answerOf, givenOf, feedCall, setup, sessionPoint}
+use Rattle.session.specs.Hold.{OpenMeets, FeedMeets, FeedNumber, answerOf, givenBy, givenOf, feedCall, setup, sessionPoint}
 use Rattle.session.specs.Trace as list
 use Rattle.session.specs.Trace.{Trace}
 use Rattle.plain.specs.Lists.{flagsTaken, listReads}
 use Rattle.plain.proofs.TwoLists.{silence}
-use Rattle.session.proofs.Demand3.{as-plain, same-point}
+use Rattle.session.proofs.Demand3.{as-plain, start-from-anchor, same-point}
 use Rattle.c_record.specs.declared.FunnelivySession.{FunnelivySession}
 use Rattle.c_record.specs.declared.FunnelivyOpened.{FunnelivyOpened}
 use Rattle.c_record.specs.declared.FunnelivyFed.{FunnelivyFed}
 use Rattle.c_record.specs.Record.{sessionOf}
 use Rattle.c_record.specs.Session.{openedWire, fedWire, endWire, readingWire}
 use Rattle.funnelivy.specs.Session.{OpenedMeets}
-use Rattle.funnelivy.specs.Host.{HostTrace, done, feeds, reads, fedAnswer, nextOf, readAnswer, Followed}
+use Rattle.funnelivy.specs.Host.{HostTrace, done, feeds, reads, lends, changes, fedAnswer, nextOf, readAnswer, Followed}
 use Rattle.c_record.proofs.RoundTrip.{round-trip}
-
--- ---- the plain session refuses with no number 0
-
-module _ (code k : ℕ) (a : Answer) (taken : (n : ℕ) → a ≡ refused n → ⊥) where
-  some-by : (t : Bool) → eqb code 0 ≡ t → refused k ≡ cond t a (refused code) → k ≡ 0 → ⊥
-  some-by true e h z = taken k (sym h)
-  some-by false e h z = let q : k ≡ code = cc in eqb-false code 0 e (sym q ∙ z)
-
-  some : refused k ≡ cond (eqb code 0) a (refused code) → k ≡ 0 → ⊥
-  some h z = some-by (eqb code 0) refl h z
-
-not-took : (m n : ℕ) → took m ≡ refused n → ⊥
-not-took m n e = let z : _≡_ {A = ℕ} 0 1 = cc in omega arith
-
-not-gave : (t : Point) (n : ℕ) → gave t ≡ refused n → ⊥
-not-gave t n e = let z : _≡_ {A = ℕ} 0 1 = cc in omega arith
-
-feed-some : (p : Plain) (l : Lengths) (fl : List ℕ) (ys : List Float) (k : ℕ) → refused k ≡ answer p (feed l fl ys) → k ≡ 0 → ⊥
-feed-some p l fl ys k =
-    let n = length (through p fl ys .flags) - length (p .flags) in
-    some (feedCode (p .setup) (p .phase) l fl ys) k (took n) (not-took n)
-
-read-some : (p : Plain) (k : ℕ) → refused k ≡ answer p read → k ≡ 0 → ⊥
-read-some p k = some (readCode (p .phase)) k (gave (pointOf p)) (not-gave (pointOf p))
 
 -- ---- what the numbers say is what the inner answer says
 
@@ -69,9 +47,11 @@ record FedSame (w : FunnelivySession) (r : FunnelivyFed) (x : Fed) : Type 0 wher
   answer : fedAnswer r ≡ answerOf x
   next : sessionOf (nextOf w r) ≡ hold.nextOf (sessionOf w) x
 
-fed-same : (w : FunnelivySession) (x : Fed) → ((k : ℕ) → x ≡ fed.Refused k → k ≡ 0 → ⊥) → FedSame w (fedWire x) x
-fed-same w (fed.Took n s) h = record { answer = refl; next = round-trip s }
-fed-same w (fed.Refused k) h = record { answer = simp (ne-eqb k 0 (h k refl)); next = simp (ne-eqb k 0 (h k refl)) }
+fed-same : (w : FunnelivySession) (x : Fed) (code : ℕ) → FeedNumber x code → FedSame w (fedWire x) x
+fed-same w (fed.Took n s) code e = record { answer = refl; next = round-trip s }
+fed-same w (fed.Refused k) code e =
+    let some : eqb k 0 ≡ false = ne-eqb k 0 (let l = e .1 in omega arith) in
+    record { answer = simp some; next = simp some }
 
 gave-same : (e : End) (t n : ℕ) → readAnswer (endWire e t n) ≡ gave (record { stage = endStage e; taken = t; evaluations = n })
 gave-same (end.Reported x q rate None skip y) t n = refl
@@ -79,30 +59,53 @@ gave-same (end.Reported x q rate (Degrees d) skip y) t n = refl
 gave-same end.Unfound t n = refl
 gave-same (end.CutShort x q) t n = refl
 
-given-same : (g : Given) → ((k : ℕ) → g ≡ given.Refused k → k ≡ 0 → ⊥) → readAnswer (readingWire g) ≡ givenOf g
+-- read refuses with no number 0
+abbrev Numbered : Given → Type 0
+Numbered (given.Gave g) = Unit
+Numbered (given.Refused k) = eqb k 0 ≡ false
+
+numbered : (h : Phase) (s : Session) → Numbered (givenBy h s)
+numbered Searching s = refl
+numbered (Collecting x) s = refl
+numbered (Reported x r) s = tt
+numbered Unfound s = tt
+numbered (CutShort x) s = tt
+
+given-same : (g : Given) → Numbered g → readAnswer (readingWire g) ≡ givenOf g
 given-same (given.Gave g) h = gave-same (g .end) (g .taken) (g .evaluations)
-given-same (given.Refused k) h = simp (ne-eqb k 0 (h k refl))
+given-same (given.Refused k) h = simp h
 
 -- ---- a host's list is a list on the session that its record says
 
+-- a refused feed over other stores
+lent-list : (w : FunnelivySession) (st : List ℕ) (sm : List Float) (os : List ℕ) (oy : List Float) (im vo fl : List ℕ) (ys : List Float) (x : Fed)
+    (os₁ : List ℕ) (oy₁ : List Float) (im₁ vo₁ : List ℕ) (cs : List Call) (as' : List Answer) (z : Session) (st' : List ℕ) (sm' : List Float)
+    → FeedMeets (sessionOf w) os oy im vo fl ys x os₁ oy₁ im₁ vo₁ → (fedWire x .refusal ≡ 0 → ⊥) → Trace (sessionOf w) st sm cs as' z st' sm'
+    → Trace (sessionOf w) st sm (feedCall os oy im vo fl ys ∷ cs) (refused (fedWire x .refusal) ∷ as') z st' sm'
+lent-list w st sm os oy im vo fl ys (fed.Took n s) os₁ oy₁ im₁ vo₁ cs as' z st' sm' m some t = absurd (some refl)
+lent-list w st sm os oy im vo fl ys (fed.Refused k) os₁ oy₁ im₁ vo₁ cs as' z st' sm' m some t =
+    list.lent (sessionOf w) st sm os oy im vo fl ys k os₁ oy₁ im₁ vo₁ cs as' z st' sm' m t
+
 traced : {w : FunnelivySession} {st : List ℕ} {sm : List Float} {cs : List Call} {as' : List Answer} {z : FunnelivySession} {st' : List ℕ} {sm' : List Float}
-    → HostTrace w st sm cs as' z st' sm' → (p : Plain) → Holds p (sessionOf w) st sm → Trace (sessionOf w) st sm cs as' (sessionOf z) st' sm'
-traced (done w st sm) p h = list.done (sessionOf w) st sm
-traced (feeds w st sm im vo fl ys r st₁ sm₁ im₁ vo₁ cs as' z st' sm' m t) p h =
+    → HostTrace w st sm cs as' z st' sm' → Trace (sessionOf w) st sm cs as' (sessionOf z) st' sm'
+traced (done w st sm) = list.done (sessionOf w) st sm
+traced (feeds w st sm im vo fl ys r st₁ sm₁ im₁ vo₁ cs as' z st' sm' m t) =
     let call : Call = feedCall st sm im vo fl ys in
-    let one = m .meets .plain p h in
-    let same : FedSame w r (m .fed) =
-    subst (λ (x : FunnelivyFed). FedSame w x (m .fed)) (sym (m .is))
-    (fed-same w (m .fed) (λ k q z. feed-some p (hold.lengths (length st) (length sm) (length im) (length vo)) fl ys k (sym (ap answerOf q) ∙ one .0) z)) in
-    let rest = traced t (after p call) (subst (λ (s : Session). Holds (after p call) s st₁ sm₁) (sym (same .next)) (one .1)) in
+    let same : FedSame w r (m .fed) = subst (λ (x : FunnelivyFed). FedSame w x (m .fed)) (sym (m .is)) (fed-same w (m .fed) _ (m .meets .number)) in
     subst (λ (a : Answer). Trace (sessionOf w) st sm (call ∷ cs) (a ∷ as') (sessionOf z) st' sm') (sym (same .answer))
     (list.fed (sessionOf w) st sm im vo fl ys (m .fed) st₁ sm₁ im₁ vo₁ cs as' (sessionOf z) st' sm' (m .meets)
-    (subst (λ (s : Session). Trace s st₁ sm₁ cs as' (sessionOf z) st' sm') (same .next) rest))
-traced (reads w st sm r cs as' z st' sm' m t) p h =
-    let one = m .meets .plain p st sm h in
-    let same : readAnswer r ≡ givenOf (m .given) = ap readAnswer (m .is) ∙ given-same (m .given) (λ k q z. read-some p k (sym (ap givenOf q) ∙ one) z) in
-    subst (λ (a : Answer). Trace (sessionOf w) st sm (read ∷ cs) (a ∷ as') (sessionOf z) st' sm') (sym same)
-    (list.gave (sessionOf w) st sm (m .given) cs as' (sessionOf z) st' sm' (m .meets) (traced t p h))
+    (subst (λ (s : Session). Trace s st₁ sm₁ cs as' (sessionOf z) st' sm') (same .next) (traced t)))
+traced (reads w st sm r cs as' z st' sm' m t) =
+    let s : Session = sessionOf w in
+    let same : readAnswer r ≡ givenOf (m .given) =
+    ap readAnswer (m .is) ∙ given-same (m .given) (subst Numbered (sym (m .meets .says)) (numbered (s .phase) s)) in
+    subst (λ (a : Answer). Trace s st sm (read ∷ cs) (a ∷ as') (sessionOf z) st' sm') (sym same)
+    (list.gave s st sm (m .given) cs as' (sessionOf z) st' sm' (m .meets) (traced t))
+traced (lends w st sm os oy im vo fl ys r os₁ oy₁ im₁ vo₁ cs as' z st' sm' m some t) =
+    let number : r .refusal ≡ fedWire (m .fed) .refusal = ap (λ (x : FunnelivyFed). x .refusal) (m .is) in
+    subst (λ (k : ℕ). Trace (sessionOf w) st sm (feedCall os oy im vo fl ys ∷ cs) (refused k ∷ as') (sessionOf z) st' sm') (sym number)
+    (lent-list w st sm os oy im vo fl ys (m .fed) os₁ oy₁ im₁ vo₁ cs as' (sessionOf z) st' sm' (m .meets) (λ e. some (number ∙ e)) (traced t))
+traced (changes w st sm other cs as' z st' sm' e t) = list.another (sessionOf w) st sm other cs as' (sessionOf z) st' sm' e (traced t)
 
 -- ---- from an open that was not refused
 
@@ -111,14 +114,10 @@ module _ (mode anchor : ℕ) (st : List ℕ) (sm first sm₀ : List Float) where
       → {cs : List Call} {as' : List Answer} {z : FunnelivySession} {st' : List ℕ} {sm' : List Float}
       → HostTrace (openedWire x .session) st sm₀ cs as' z st' sm' → Followed mode anchor st sm first sm₀ cs as' z st' sm'
   from-open (op.Ready s) m e {cs} {as'} {z} {st'} {sm'} t =
-      let same = round-trip s in
-      let p : Plain = opened (setup mode anchor (length st)) first in
       record {
         session = s;
         opened = m;
-        trace =
-            subst (λ (x : Session). Trace x st sm₀ cs as' (sessionOf z) st' sm') same
-            (traced t p (subst (λ (x : Session). Holds p x st sm₀) (sym same) (m .says .2)));
+        trace = subst (λ (x : Session). Trace x st sm₀ cs as' (sessionOf z) st' sm') (round-trip s) (traced t);
       }
   from-open (op.Refused k) m e t = absurd (let h = m .says .1 in omega arith)
 
@@ -136,6 +135,12 @@ module _ (mode anchor : ℕ) (st : List ℕ) (sm first sm₀ : List Float) where
       → (as' ≡ answers (opened (setup mode anchor (length st)) first) cs)
       × (sessionPoint (sessionOf z) ≡ pointOf (runTo (opened (setup mode anchor (length st)) first) cs))
   host-as-plain o m e t = let f = followed o m e t in as-plain mode anchor st sm first sm₀ (f .session) (f .opened) (f .trace)
+
+  -- Beside the second theorem: the start after a list, where there is one, is not before the anchor.
+  pub host-start-from-anchor : (o : FunnelivyOpened) → OpenedMeets mode anchor st sm first o sm₀ → o .refusal ≡ 0
+      → {cs : List Call} {as' : List Answer} {z : FunnelivySession} {st' : List ℕ} {sm' : List Float} → HostTrace (o .session) st sm₀ cs as' z st' sm'
+      → FromAnchor anchor (sessionPoint (sessionOf z) .stage)
+  host-start-from-anchor o m e t = let f = followed o m e t in start-from-anchor mode anchor st sm first sm₀ (f .session) (f .opened) (f .trace)
 
 -- Second theorem: two hosts' lists with the same flags taken and the same parity samples end in the same point, the starts less the anchors.
 pub host-same-point : (mode a b : ℕ) (st₁ st₂ : List ℕ) (sm₁ first₁ sm₁' sm₂ first₂ sm₂' : List Float) (o₁ o₂ : FunnelivyOpened) → length st₁ ≡ length st₂

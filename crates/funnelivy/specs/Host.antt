@@ -1,9 +1,11 @@
 -- A host's list of calls on one session (01-scope.md, "Session"): each step is one that the exported call's `ensures` allows. Definitions only.
+use mathlib.Core.Path.{_≡_}
 use Prim.Native.Nat.{ℕ}
-use mathlib.Core.Bool.{cond}
+use mathlib.Core.Bool.{false, cond}
 use mathlib.Core.List.{List, [], _∷_}
 use lib.Dec.{eqb}
 use lib.Ieee.{Float}
+use Rattle.modespec.specs.Sizes.{robot}
 use Rattle.plain.specs.Point.{Point, Stage, reported, unfound, cutShort}
 use Rattle.plain.specs.Calls.{Call, read, Answer, took, gave, refused}
 use Rattle.session.specs.declared.Session.{Session}
@@ -38,7 +40,8 @@ readAnswer r = cond (eqb (r .refusal) 0) (gave (readingPoint r)) (refused (r .re
 
 -- ---- the list
 
--- Each call gets the record last returned and the stores as last left; the work memory may hold anything.
+-- Each call gets the record last returned and the stores as last left; the work memory may hold anything. Every list of calls is such a list:
+-- each call is total, and its `ensures`, which asks nothing of record or memory, gives the step.
 pub data HostTrace : FunnelivySession → List ℕ → List Float → List Call → List Answer → FunnelivySession → List ℕ → List Float → Type 0 where
   done : (w : FunnelivySession) (flagStore : List ℕ) (sampleStore : List Float) → HostTrace w flagStore sampleStore [] [] w flagStore sampleStore
   feeds : (w : FunnelivySession) (flagStore : List ℕ) (sampleStore : List Float) (img votes flags : List ℕ) (samples : List Float)
@@ -52,6 +55,20 @@ pub data HostTrace : FunnelivySession → List ℕ → List Float → List Call 
       → ReadingMeets w r
       → HostTrace w flagStore sampleStore cs as' z flagEnd sampleEnd
       → HostTrace w flagStore sampleStore (read ∷ cs) (readAnswer r ∷ as') z flagEnd sampleEnd
+  -- a feed that was lent other stores, as of another length, and was refused: the host keeps the record that it has
+  lends : (w : FunnelivySession) (flagStore : List ℕ) (sampleStore : List Float) (otherFlags : List ℕ) (otherSamples : List Float)
+      (img votes flags : List ℕ) (samples : List Float) (r : FunnelivyFed) (otherFlags' : List ℕ) (otherSamples' : List Float) (img' votes' : List ℕ)
+      (cs : List Call) (as' : List Answer) (z : FunnelivySession) (flagEnd : List ℕ) (sampleEnd : List Float)
+      → FedMeets w otherFlags otherSamples img votes flags samples r otherFlags' otherSamples' img' votes'
+      → (r .refusal ≡ 0 → ⊥)
+      → HostTrace w flagStore sampleStore cs as' z flagEnd sampleEnd
+      → HostTrace w flagStore sampleStore (feedCall otherFlags otherSamples img votes flags samples ∷ cs) (refused (r .refusal) ∷ as') z flagEnd sampleEnd
+  -- without parity samples nothing is kept in the sample store, and the next call may be lent another one
+  changes : (w : FunnelivySession) (flagStore : List ℕ) (sampleStore otherSamples : List Float)
+      (cs : List Call) (as' : List Answer) (z : FunnelivySession) (flagEnd : List ℕ) (sampleEnd : List Float)
+      → robot (w .mode) ≡ false
+      → HostTrace w flagStore otherSamples cs as' z flagEnd sampleEnd
+      → HostTrace w flagStore sampleStore cs as' z flagEnd sampleEnd
 
 -- the list is one on a session that open gave, and ends in the session that the last record says
 pub record Followed

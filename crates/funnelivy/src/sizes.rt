@@ -21,7 +21,7 @@ pub extern "C" fn funnelivy_sizes(mode: u8) -> FunnelivySizesAnswer
     let spec = modespec::for_mode(mode);
     FunnelivySizesAnswer {
         refusal: 0,
-        window: modespec::window_probes(spec) as u64,
+        window: modespec::mode_window_probes(mode) as u64,
         picture: modespec::image_probes(spec, limits::WORKING_SAMPLE_RATE_HZ) as u64,
     }
 }

@@ -15,15 +15,15 @@ use lib.Ieee.Back.{round-whole, unsigned-back, positive-back}
 use lib.Ieee.Positive.{positive, positive-of-value}
 use borrow.Author.Tests.{lt-ltb, le-ltb}
 use Rattle.ieee.specs.Casts.{ceilUnsigned, roundAway}
-use Rattle.ieee.specs.Numbers.{whole}
+use Rattle.ieee.specs.Numbers.{ofNat}
 use Rattle.ieee.proofs.Unsigned.{unsigned, unsigned-of-value, add-at, mul-at}
 use Rattle.ieee.proofs.Monotone.{up-div, up-div-le, le-up-div}
 
-pub whole-fits : (n : ℕ) → T (fits binary64 (whole n))
+pub whole-fits : (n : ℕ) → T (fits binary64 (ofNat n))
 whole-fits n = ofInt-fits binary64 (pos n)
 
 -- the order, for all whole numbers
-pub whole-le : (a b : ℕ) → a ≤ b → T (le (whole a) (whole b))
+pub whole-le : (a b : ℕ) → a ≤ b → T (le (ofNat a) (ofNat b))
 unfolding ofInt
 whole-le a b h = round-mono binary64 a 1 b 1 one one (mul-le-mul-right 1 h)
   where
@@ -96,44 +96,44 @@ to-lt (fin false m e) (fin false n d) a b v w =
 
 -- ---- a whole number n up to 2 ^ 53
 module _ (n : ℕ) (h : n ≤ 2 ^ 53) where
-  pub whole-value : HasValue (whole n) false n 1
+  pub whole-value : HasValue (ofNat n) false n 1
   unfolding ofInt
   whole-value = round-whole binary64 false n h
 
-  pub whole-unsigned : T (unsigned (whole n))
-  whole-unsigned = unsigned-of-value (whole n) n 1 whole-value
+  pub whole-unsigned : T (unsigned (ofNat n))
+  whole-unsigned = unsigned-of-value (ofNat n) n 1 whole-value
 
-  pub whole-positive : 0 < n → T (positive (whole n))
-  whole-positive k = positive-of-value (whole n) n 1 whole-value k
+  pub whole-positive : 0 < n → T (positive (ofNat n))
+  whole-positive k = positive-of-value (ofNat n) n 1 whole-value k
 
-  pub cut-whole : toUnsigned 64 (whole n) ≡ n
+  pub cut-whole : toUnsigned 64 (ofNat n) ≡ n
   cut-whole = unsigned-back binary64 64 n (in-float n h) (below' n h) .1
 
-  pub signed-whole : toSigned 63 (whole n) ≡ pos n
+  pub signed-whole : toSigned 63 (ofNat n) ≡ pos n
   signed-whole = positive-back binary64 63 n (in-float n h) (below n h) .1
 
-  pub ceil-whole : ceilUnsigned 64 (whole n) ≡ n
-  ceil-whole = to-ceil (whole n) n whole-value (below' n h)
+  pub ceil-whole : ceilUnsigned 64 (ofNat n) ≡ n
+  ceil-whole = to-ceil (ofNat n) n whole-value (below' n h)
 
-  pub round-of-whole : roundAway binary64 (whole n) ≡ whole n
+  pub round-of-whole : roundAway binary64 (ofNat n) ≡ ofNat n
   unfolding ofInt
-  round-of-whole = to-round (whole n) n whole-value
+  round-of-whole = to-round (ofNat n) n whole-value
 
 -- ---- two of them
 module _ (a b : ℕ) (h : a ≤ 2 ^ 53) (k : b ≤ 2 ^ 53) where
-  pub whole-lt : lt (whole a) (whole b) ≡ ltb a b
-  whole-lt = to-lt (whole a) (whole b) a b (whole-value a h) (whole-value b k)
+  pub whole-lt : lt (ofNat a) (ofNat b) ≡ ltb a b
+  whole-lt = to-lt (ofNat a) (ofNat b) a b (whole-value a h) (whole-value b k)
 
   one : 0 < 1
   one = omega arith
 
-  pub whole-add : add binary64 (whole a) (whole b) ≡ whole (a + b)
+  pub whole-add : add binary64 (ofNat a) (ofNat b) ≡ ofNat (a + b)
   unfolding ofInt
-  whole-add = add-at binary64 (whole a) (whole b) a 1 b 1 one one (whole-value a h) (whole-value b k) ∙ ap (λ (z : ℕ). round binary64 false z 1) (plain a b)
+  whole-add = add-at binary64 (ofNat a) (ofNat b) a 1 b 1 one one (whole-value a h) (whole-value b k) ∙ ap (λ (z : ℕ). round binary64 false z 1) (plain a b)
     where
       plain : (i j : ℕ) → i * 1 + j * 1 ≡ i + j
       plain i j = omega arith
 
-  pub whole-mul : mul binary64 (whole a) (whole b) ≡ whole (a * b)
+  pub whole-mul : mul binary64 (ofNat a) (ofNat b) ≡ ofNat (a * b)
   unfolding ofInt
-  whole-mul = mul-at binary64 (whole a) (whole b) a 1 b 1 one one (whole-value a h) (whole-value b k)
+  whole-mul = mul-at binary64 (ofNat a) (ofNat b) a 1 b 1 one one (whole-value a h) (whole-value b k)

@@ -1,4 +1,5 @@
--- Rust's float casts and roundings that Rattle's own operators leave out, as total functions on the logic's floats (`lib.Ieee`). Definitions only.
+-- Rust's float casts and roundings (01-scope.md, "Rust things that need another body") that Rattle's own operators leave out, as total functions on
+-- the logic's floats (`lib.Ieee`). Definitions only.
 use Prim.Native.Nat.{ℕ, _+_, _-_, _*_, _/_, _^_, min}
 use mathlib.Core.Bool.{cond}
 use lib.Ieee.{Float, nan, inf, fin, Format, binary32, up, down, round, lt, isNan}

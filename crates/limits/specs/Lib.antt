@@ -1,3 +1,3 @@
--- Which number a refused call gets, and the ranges of flags and samples. Definitions only.
+-- Which number a refused call gets, and the ranges of flags and samples (01-scope.md, "Numbers given by cause"). Definitions only.
 pub mod Refusals
 pub mod Ranges

@@ -15,12 +15,16 @@ allAtMost n (x ∷ xs) = leb x n && allAtMost n xs
 abbrev pub anyAbove : List ℕ → Bool
 anyAbove flags = not (allAtMost 1 flags)
 
+-- 1.0
+abbrev pub one : Float
+one = fin false 1 (pos 0)
+
 -- 8: a sample not finite or beyond 1 in magnitude
 unfoldable pub unsound : Float → Bool
 unfolding lt
 unsound nan = true
 unsound (inf s) = true
-unsound (fin s m e) = lt (fin false 1 (pos 0)) (fin false m e)
+unsound (fin s m e) = lt one (fin false m e)
 
 unfoldable pub anyUnsound : List Float → Bool
 unfolding unsound

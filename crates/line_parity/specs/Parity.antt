@@ -1,12 +1,12 @@
 -- Parity of the first line (01-scope.md, "Start search", "Fused multiply-add and parity"): `first_line_is_odd` of sync_start.rs. Definitions only.
-use Prim.Native.Nat.{ℕ, zero, suc, _+_, _%_}
+use Prim.Native.Nat.{ℕ, zero, suc, _+_, _%_, _^_}
 use mathlib.Core.Bool.{Bool, cond, false, _&&_}
 use mathlib.Core.List.{List, [], _++_}
 use lib.ListN.{length, take, drop}
 use lib.Dec.{eqb, leb}
-use lib.IntN.{pos, negsuc}
-use lib.Ieee.{Float, fin, binary64, add, sub, mul, div, neg, lt, le, toUnsigned}
-use Rattle.ieee.specs.Numbers.{whole}
+use lib.IntN.{pos}
+use lib.Ieee.{Float, fin, binary64, round, add, sub, mul, div, neg, lt, le, toUnsigned}
+use Rattle.ieee.specs.Numbers.{ofNat}
 use Rattle.ieee.specs.Casts.{roundAway}
 use Rattle.modespec.specs.declared.ModeSpec.{ModeSpec}
 use Rattle.modespec.specs.Sizes.{robot, windowLines, workingRate}
@@ -17,13 +17,13 @@ use Rattle.columns.specs.Columns.{listTo}
 unfoldable pub separatorOf : ModeSpec → Float
 separatorOf spec =
     add binary64 (add binary64 (spec .«sync_seconds») (spec .«porch_seconds»))
-    (mul binary64 (mul binary64 (fin false 1 (pos 1)) (whole (spec .«line_pixels»))) (spec .«pixel_seconds»))
+    (mul binary64 (mul binary64 (ofNat 2) (ofNat (spec .«line_pixels»))) (spec .«pixel_seconds»))
 
 -- round(line start + (k × L + separator) × 11,025): where line k's tone begins
 unfoldable pub toneAt : ModeSpec → Float → ℕ → Float
 toneAt spec start k =
     roundAway binary64
-    (add binary64 start (mul binary64 (add binary64 (mul binary64 (whole k) (spec .«line_seconds»)) (separatorOf spec)) workingRate))
+    (add binary64 start (mul binary64 (add binary64 (mul binary64 (ofNat k) (spec .«line_seconds»)) (separatorOf spec)) workingRate))
 
 -- the tone's 49 samples are among the n that are known
 unfoldable pub toneKnown : ℕ → Float → Bool
@@ -33,12 +33,16 @@ toneKnown n from = le (fin false 0 (pos 0)) from && leb (toUnsigned 64 from + 49
 unfoldable pub toneOf : List Float → Float → List Float
 toneOf samples from = take 49 (drop (toUnsigned 64 from) samples)
 
+-- `f64::EPSILON`, 2 ^ -52
+unfoldable pub epsilon : Float
+epsilon = round binary64 false 1 (2 ^ 52)
+
 -- (odd - even) / (odd + even + EPSILON), of the powers at 2,300 and 1,500 Hz
 unfoldable pub leanOf : List Float → Float
 leanOf tone =
     let even = goertzelPower coefficient1500 tone in
     let odd = goertzelPower coefficient2300 tone in
-    div binary64 (sub binary64 odd even) (add binary64 (add binary64 odd even) (fin false 1 (negsuc 51)))
+    div binary64 (sub binary64 odd even) (add binary64 (add binary64 odd even) epsilon)
 
 -- the vote with the lean of line k: a line of odd k counts the other way
 unfoldable pub votedWith : Float → ℕ → Float → Float

@@ -12,7 +12,7 @@ use lib.Ieee.Fits.{down-pos}
 use lib.Ieee.Exact.{HasValue}
 use lib.Ieee.Back.{round-whole}
 use lib.Ieee.Positive.{positive}
-use Rattle.ieee.specs.Numbers.{whole}
+use Rattle.ieee.specs.Numbers.{ofNat}
 use Rattle.ieee.specs.Casts.{roundAway, clamp}
 use Rattle.ieee.proofs.Ceil.{ge-whole}
 use Rattle.ieee.proofs.Order.{no}
@@ -56,7 +56,7 @@ mul-number (fin s m e) nan n p h = absurd h
 mul-number (fin s m e) (inf t) n p h = absurd h
 mul-number (fin s m e) (fin t k d) n p h = round-number binary64 (unlike s t) (m * up e * (k * up d)) (down e * down d)
 
-whole-value : (n : ℕ) → n ≤ 65536 → HasValue (whole n) false n 1
+whole-value : (n : ℕ) → n ≤ 65536 → HasValue (ofNat n) false n 1
 unfolding ofInt
 whole-value n h = round-whole binary64 false n (le-trans h (lit≤ tt))
 
@@ -138,13 +138,13 @@ between-columns (finite false m e) h k v a b = cut k (m * up e) (down e) (down-p
 most : (n : ℕ) → n ≤ 65536 → Within 1 65536 (max n 1)
 most n h = record { low = omega arith; high = omega arith }
 
-of-share : (q : Float) (n : ℕ) → T (positive q) → n ≤ 65536 → Columns (max n 1) (clamp (roundAway binary64 (mul binary64 q (whole n))) one (whole (max n 1)))
+of-share : (q : Float) (n : ℕ) → T (positive q) → n ≤ 65536 → Columns (max n 1) (clamp (roundAway binary64 (mul binary64 q (ofNat n))) one (ofNat (max n 1)))
 of-share q n p h =
     let k = max n 1 in
-    let v : HasValue (whole k) false k 1 = whole-value k (most n h .high) in
-    let x : Number (roundAway binary64 (mul binary64 q (whole n))) = away-number (mul-number q (whole n) n p (whole-value n h)) in
-    held (roundAway binary64 (mul binary64 q (whole n))) (whole k) (Columns k) (one-columns k (most n h .low)) (top-columns (whole k) k (most n h .low) v)
-    (between-columns x (whole k) k v)
+    let v : HasValue (ofNat k) false k 1 = whole-value k (most n h .high) in
+    let x : Number (roundAway binary64 (mul binary64 q (ofNat n))) = away-number (mul-number q (ofNat n) n p (whole-value n h)) in
+    held (roundAway binary64 (mul binary64 q (ofNat n))) (ofNat k) (Columns k) (one-columns k (most n h .low)) (top-columns (ofNat k) k (most n h .low) v)
+    (between-columns x (ofNat k) k v)
 
 pub pulse-columns : (mode n : ℕ) → n ≤ 65536 → Within 1 (max n 1) (pulseColumns (specOf mode) n)
 unfolding pulseColumns

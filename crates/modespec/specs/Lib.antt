@@ -1,4 +1,4 @@
--- The modes and what follows from them. Definitions only.
+-- The modes and what follows from them (01-scope.md, "Modes"). Definitions only.
 pub mod ModeSpec
 pub mod Sizes
 pub mod Calls

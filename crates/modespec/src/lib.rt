@@ -326,14 +326,21 @@ pub fn line_samples(spec: ModeSpec) -> f64
     spec.line_seconds * limits::WORKING_SAMPLE_RATE_HZ
 }
 
-// w: the flags of one evaluation's window.
-pub fn window_probes(spec: ModeSpec) -> usize
+// w: the flags of one evaluation's window. The Rust's + 1 must not wrap.
+fn window_probes(spec: ModeSpec) -> usize
     requires { ⌜ Sizes.windowProbes spec < 2 ^ 64 ⌝ }
     ensures { λ r. ⌜ r ≡ Sizes.windowProbes spec ⌝ }
 {
     let lines: f64 = std::num::nearest_u64_to_f64(window_lines(spec) as u64);
     let samples: f64 = lines * line_samples(spec);
     ieee::ceil_to_u64(samples / SYNC_PROBE_STRIDE) as usize + 1
+}
+
+// w for a mode's number. The rows of all modes meet what `window_probes` requires.
+pub fn mode_window_probes(mode: u8) -> usize
+    ensures { λ r. ⌜ r ≡ Sizes.windowProbes (specOf mode) ⌝ }
+{
+    window_probes(for_mode(mode))
 }
 
 // P: the flags of a whole picture, at `find_sync`'s starting rate.

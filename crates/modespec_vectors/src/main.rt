@@ -66,10 +66,6 @@ fn steps(mode: u8, first: u64, lasts: u64, expected: u64) -> bool {
         && step(mode, next_to(two), three, next_to(next_to(expected)))
 }
 
-fn probes(mode: u8) -> u64 {
-    modespec::window_probes(modespec::for_mode(mode)) as u64
-}
-
 fn right(op: u64, mode: u8, b: u64, c: u64, expected: u64) -> bool {
     let spec = modespec::for_mode(mode);
     match op {
@@ -77,7 +73,7 @@ fn right(op: u64, mode: u8, b: u64, c: u64, expected: u64) -> bool {
         1 => (spec.radio_lines() as u64) == expected,
         2 => replay::same_bits(spec.skip_correction_seconds(), expected),
         3 => (modespec::window_lines(spec) as u64) == expected,
-        4 => probes(mode) == expected,
+        4 => (modespec::mode_window_probes(mode) as u64) == expected,
         5 => (modespec::image_probes(spec, replay::float_of(c)) as u64) == expected,
         6 => (modespec::line_width(spec) as u64) == expected,
         7 => columns_are(mode, b, expected),

@@ -125,6 +125,10 @@ run-through p (feed m xs ys ∷ cs) =
     ∙ sym (through-append p (cond b xs []) (acceptedFlags q cs) (cond b ys []) (acceptedSamples q cs) here)
 run-through p (read ∷ cs) = run-through p cs
 
+-- no list of calls changes what open was given
+pub run-setup : (p : Plain) (cs : List Call) → runTo p cs .setup ≡ p .setup
+run-setup p cs = ap (λ (q : Plain). q .setup) (run-through p cs) ∙ through-setup p (acceptedFlags p cs) (acceptedSamples p cs)
+
 -- ---- the flags taken are the session's
 
 end-nil : (p : Plain) (x : ℕ) (xs : List ℕ) (ys : List Float) → endedPhase (p .phase) ≡ true → toTheEnd p (x ∷ xs) ys ≡ []

@@ -10,6 +10,7 @@ use lib.ListN.{length, take, drop, length-append}
 use lib.Dec.{eqb, leb}
 use lib.Ieee.{Float}
 use borrow.Author.Tests.{eqb-true, eqb-false, leb-true, leb-false, le-leb, lt-leb}
+use Rattle.plain.specs.declared.Start.{Start}
 use Rattle.plain.specs.declared.Phase.{Phase}
 use Rattle.plain.specs.declared.Phase.the-variants.{Searching, Collecting, Reported, Unfound, CutShort}
 use Rattle.plain.specs.Plain.{Setup, Plain, windowOf, endedPhase, dueAt, evaluating, evaluatingBy, evaluatedBy, evaluationAt, reporting, reportingBy, reported, fullAt, ending, withPhase, endOf, events, joined, step, through, opened}
@@ -17,7 +18,7 @@ use Rattle.plain.specs.Calls.{Call, runTo}
 use Rattle.plain.specs.Lists.{acceptedFlags, acceptedSamples, searching, searchedOf, owed}
 use Rattle.plain.proofs.Laws.{through-nil, through-cons, evaluating-live}
 use Rattle.plain.proofs.Sizes.{window-some}
-use Rattle.plain.proofs.Lists.{step-ended, step-live, step-flags, step-setup, through-setup, run-through}
+use Rattle.plain.proofs.Lists.{step-ended, step-live, step-flags, step-setup, run-through, run-setup}
 
 -- ---- no end before F flags
 
@@ -98,19 +99,24 @@ through-full p [] ys h = subst EndsFull (sym (through-nil p ys)) h
 through-full p (x ∷ xs) ys h =
     subst EndsFull (sym (through-cons p x xs ys)) (through-full (step p x (take 4 ys)) xs (drop 4 ys) (step-full p x (take 4 ys) h))
 
-run-full : (u : Setup) (first : List Float) (cs : List Call) → EndsFull (runTo (opened u first) cs)
-run-full u first cs =
+run-full : (u : Setup) (first : List Float) (cs : List Call) (h : Phase) → runTo (opened u first) cs .phase ≡ h
+    → AtEnd h (length (runTo (opened u first) cs .flags)) (u .capacity)
+run-full u first cs h e =
     let p : Plain = opened u first in
-    subst EndsFull (sym (run-through p cs)) (through-full p (acceptedFlags p cs) (acceptedSamples p cs) tt)
+    let q : Plain = runTo p cs in
+    let full : EndsFull q = subst EndsFull (sym (run-through p cs)) (through-full p (acceptedFlags p cs) (acceptedSamples p cs) tt) in
+    subst (λ (x : Phase). AtEnd x (length (q .flags)) (u .capacity)) e
+    (subst (λ (v : Setup). AtEnd (q .phase) (length (q .flags)) (v .capacity)) (run-setup p cs) full)
 
 -- no list of calls ends unfound before F flags are taken
 pub unfound-full : (u : Setup) (first : List Float) (cs : List Call) → runTo (opened u first) cs .phase ≡ Unfound
     → length (runTo (opened u first) cs .flags) ≡ u .capacity
-unfound-full u first cs e =
-    let p : Plain = opened u first in
-    let q : Plain = runTo p cs in
-    let kept : q .setup .capacity ≡ u .capacity = ap (λ (z : Plain). z .setup .capacity) (run-through p cs) ∙ ap (λ (v : Setup). v .capacity) (through-setup p (acceptedFlags p cs) (acceptedSamples p cs)) in
-    subst (λ (h : Phase). AtEnd h (length (q .flags)) (q .setup .capacity)) e (run-full u first cs) ∙ kept
+unfound-full u first cs e = run-full u first cs Unfound e
+
+-- nor cut short
+pub cut-short-full : (u : Setup) (first : List Float) (cs : List Call) (s : Start) → runTo (opened u first) cs .phase ≡ CutShort s
+    → length (runTo (opened u first) cs .flags) ≡ u .capacity
+cut-short-full u first cs s e = run-full u first cs (CutShort s) e
 
 -- ---- the evaluations owed
 

@@ -17,11 +17,11 @@ use Rattle.sync_start.proofs.Evaluations.{parity-only, reads-known}
 use Rattle.plain.specs.declared.Phase.{Phase}
 use Rattle.plain.specs.declared.Phase.the-variants.{Searching, Collecting, Reported, Unfound, CutShort}
 use Rattle.plain.specs.Plain.{Setup, Plain, windowOf, endedPhase, dueAt, evaluating, evaluatingBy, evaluatedBy, evaluationAt, reporting, reportingBy, reported, fullAt, ending, withPhase, endOf, events, joined, step, through, opened}
-use Rattle.plain.specs.Point.{Stage, pointOf, pointLess, stageOf, stageLess}
+use Rattle.plain.specs.Point.{Stage, pointOf, pointLess, stageOf, stageLess, FromAnchor}
 use Rattle.plain.specs.Calls.{Call, runTo}
 use Rattle.plain.specs.Lists.{acceptedFlags, acceptedSamples, toTheEnd, flagsTaken, readsBy, readsOf, listReads}
 use Rattle.plain.proofs.Laws.{four-left, through-cons, through-ended, through-nil}
-use Rattle.plain.proofs.Lists.{step-live, step-flags, step-samples, run-through, accepted-four, through-samples, samplesTo, through-end, reads-cons, reads-end, list-reads, through-setup}
+use Rattle.plain.proofs.Lists.{step-live, step-flags, step-samples, run-through, accepted-four, through-samples, samplesTo, through-end, reads-cons, reads-end, list-reads, run-setup}
 
 abbrev pub silence : Float
 silence = fin false 0 (pos 0)
@@ -203,6 +203,19 @@ stage-less a b (Reported s r) = rw (back a (s .position), back b (s .position))
 stage-less a b Unfound = refl
 stage-less a b (CutShort s) = rw (back a (s .position), back b (s .position))
 
+from-anchor : (a : ℕ) (h : Phase) → FromAnchor a (stageOf a h)
+from-anchor a Searching = tt
+from-anchor a (Collecting s) = omega arith
+from-anchor a (Reported s r) = omega arith
+from-anchor a Unfound = tt
+from-anchor a (CutShort s) = omega arith
+
+-- a start is not before the anchor, so that the difference below is cut nowhere
+pub starts-from : (u : Setup) (first : List Float) (cs : List Call) → FromAnchor (u .anchor) (pointOf (runTo (opened u first) cs) .stage)
+starts-from u first cs =
+    let q : Plain = runTo (opened u first) cs in
+    subst (λ (v : Setup). FromAnchor (u .anchor) (stageOf (v .anchor) (q .phase))) (sym (run-setup (opened u first) cs)) (from-anchor (u .anchor) (q .phase))
+
 -- Two lists of one mode and store length, with the same flags taken, where each sample that an evaluation of the first reads for
 -- parity has the same value under its number in the second: same phase, flags taken, evaluations, qualities, rate, slant and skip,
 -- and the same starts less the anchors.
@@ -236,6 +249,6 @@ two-lists mode capacity a b first second cs ds h1 h2 flags same =
     one-piece q ds ∙ ap (λ (l : List ℕ). through q l zs) (sym flags) ∙ v .same ∙ ap (varied b (v .samples)) (sym (one-piece p cs)) in
     let anchors : pointLess a (pointOf (runTo p cs)) ≡ pointLess b (pointOf (varied b (v .samples) (runTo p cs))) =
     ap (λ (t : Stage). record { stage = t; taken = length (runTo p cs .flags); evaluations = runTo p cs .evaluations })
-    (ap (λ (u : Setup). stageLess a (stageOf (u .anchor) (runTo p cs .phase))) (ap (λ (z : Plain). z .setup) (run-through p cs) ∙ through-setup p (acceptedFlags p cs) (acceptedSamples p cs))
+    (ap (λ (u : Setup). stageLess a (stageOf (u .anchor) (runTo p cs .phase))) (run-setup p cs)
     ∙ stage-less a b (runTo p cs .phase)) in
     anchors ∙ ap (λ (z : Plain). pointLess b (pointOf z)) (sym other)

@@ -1,4 +1,4 @@
--- What the two spectrum calls answer. Definitions only.
+-- What the two spectrum calls answer (01-scope.md, "Spectrum and probe"). Definitions only.
 pub mod Refusals
 pub mod Window
 pub mod Decision

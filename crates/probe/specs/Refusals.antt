@@ -2,7 +2,7 @@
 use mathlib.Core.Bool.{Bool, true, false, _&&_}
 use mathlib.Core.List.{List, [], _∷_}
 use lib.Ieee.{Float, nan, inf, fin, le, neg}
-use Rattle.ieee.specs.Numbers.{whole}
+use Rattle.ieee.specs.Numbers.{ofNat}
 
 unfoldable pub allOf : (Float → Bool) → List Float → Bool
 allOf p [] = true
@@ -19,4 +19,4 @@ isFinite (fin s m e) = true
 
 -- finite, and at most 5,000 Hz either way
 unfoldable pub shiftAllowed : Float → Bool
-shiftAllowed shift = between (neg (whole 5000)) (whole 5000) shift
+shiftAllowed shift = between (neg (ofNat 5000)) (ofNat 5000) shift

@@ -1,23 +1,48 @@
 -- Demand 3: every list of calls on one session answers as the plain session does and ends in its point;
 -- and two lists with the same flags taken and the same parity samples end in the same point, less the anchors.
 -- Assumes nothing.
-use mathlib.Core.Path.{_≡_, refl, sym, _∙_, ap, ap₂}
+use mathlib.Core.Path.{_≡_, refl, sym, _∙_, ap, ap₂, subst}
+use mathlib.Core.Bool.{true, false, false≢true}
 use mathlib.Core.List.{List, _∷_, List·Memᴰ}
 use Prim.Native.Nat.{ℕ}
+use borrow.Author.Tests.{ne-eqb}
+use lib.Dec.{eqb}
+use Rattle.modespec.specs.Sizes.{robot}
 use native.Mathlib.Omega.{arith}
 use lib.ListN.{length, take, getD}
 use lib.Seq.{length-take-le}
 use lib.Ieee.{Float}
 use Rattle.plain.specs.Plain.{Plain, opened}
-use Rattle.plain.specs.Point.{pointOf, pointLess}
-use Rattle.plain.specs.Calls.{Call, Answer, answers, after, runTo}
+use Rattle.plain.specs.Point.{Point, pointOf, pointLess, FromAnchor}
+use Rattle.plain.specs.Calls.{Lengths, Call, feed, Answer, refused, answer, answers, after, runTo, feedCode}
 use Rattle.plain.specs.Lists.{flagsTaken, listReads}
-use Rattle.plain.proofs.TwoLists.{two-lists, silence}
+use Rattle.plain.proofs.TwoLists.{two-lists, starts-from, silence}
 use Rattle.session.specs.declared.Session.{Session}
 use Rattle.session.specs.declared.Opened.the-variants as op
-use Rattle.session.specs.Hold.{plainOf, Holds, OpenMeets, feedCall, setup, sessionPoint}
-use Rattle.session.specs.Trace.{Trace, done, fed, gave}
+use Rattle.session.specs.declared.Fed.the-variants.{Refused}
+use Rattle.session.specs.Hold.{setupOf, lengths, plainOf, Holds, OpenMeets, FeedNumber, feedCall, setup, sessionPoint}
+use Rattle.session.specs.Trace.{Trace, done, fed, gave, lent, another}
 use Rattle.session.proofs.Rooms.{open-room}
+
+-- a refused feed, whatever it was lent: the plain session refuses with the number, and stays
+refuses : (p : Plain) (s : Session) (st : List ℕ) (sm : List Float) → Holds p s st sm → (m : Lengths) (fl : List ℕ) (ys : List Float) (k : ℕ)
+    → FeedNumber (Refused k) (feedCode (setupOf s) (s .phase) m fl ys)
+    → (refused k ≡ answer p (feed m fl ys)) × (after p (feed m fl ys) ≡ p)
+refuses p s st sm h m fl ys k number =
+    let code : feedCode (p .setup) (p .phase) m fl ys ≡ k = ap (λ (q : Plain). feedCode (q .setup) (q .phase) m fl ys) (sym (h .same)) ∙ number .0 in
+    let some : eqb k 0 ≡ false = ne-eqb k 0 (let l = number .1 in omega arith) in
+    (rw (code, some), rw (code, some))
+
+-- without parity samples any sample store will do
+any-samples : (p : Plain) (s : Session) (st : List ℕ) (sm other : List Float) → robot (s .mode) ≡ false → Holds p s st sm → Holds p s st other
+any-samples p s st sm other e h =
+    record {
+      same = h .same;
+      known = λ r. absurd (false≢true (sym e ∙ r));
+      whole = h .whole;
+      wide = λ r. absurd (false≢true (sym e ∙ r));
+      sane = h .sane;
+    }
 
 -- what is held along a list
 follows : {s : Session} {st : List ℕ} {sm : List Float} {cs : List Call} {as' : List Answer} {z : Session} {st' : List ℕ} {sm' : List Float}
@@ -31,6 +56,11 @@ follows (fed s st sm im vo fl ys r st₁ sm₁ im₁ vo₁ cs as' z st' sm' m t)
 follows (gave s st sm g cs as' z st' sm' m t) p h =
     let rest = follows t p h in
     (ap₂ (λ (a : Answer) (l : List Answer). a ∷ l) (m .plain p st sm h) (rest .0), rest .1)
+follows (lent s st sm os oy im vo fl ys k os₁ oy₁ im₁ vo₁ cs as' z st' sm' m t) p h =
+    let one = refuses p s st sm h (lengths (length os) (length oy) (length im) (length vo)) fl ys k (m .number) in
+    let rest = follows t (after p (feedCall os oy im vo fl ys)) (subst (λ (q : Plain). Holds q s st sm) (sym (one .1)) h) in
+    (ap₂ (λ (a : Answer) (l : List Answer). a ∷ l) (one .0) (rest .0), rest .1)
+follows (another s st sm other cs as' z st' sm' e t) p h = follows t p (any-samples p s st sm other e h)
 
 held-point : (p : Plain) (s : Session) (st : List ℕ) (sm : List Float) → Holds p s st sm → sessionPoint s ≡ pointOf p
 held-point p s st sm h =
@@ -49,6 +79,13 @@ as-plain mode anchor st sm first sm₀ s o {cs} {as'} {z} {st'} {sm'} t =
     let p : Plain = opened (setup mode anchor (length st)) first in
     let r = follows t p (o .says .2) in
     (r .0, held-point (runTo p cs) z st' sm' (r .1))
+
+-- Beside the second theorem: the start after a list, where there is one, is not before the anchor, so that the start less the anchor is cut nowhere.
+pub start-from-anchor : (mode anchor : ℕ) (st : List ℕ) (sm first sm₀ : List Float) (s : Session) → OpenMeets mode anchor st sm first (op.Ready s) sm₀
+    → {cs : List Call} {as' : List Answer} {z : Session} {st' : List ℕ} {sm' : List Float} → Trace s st sm₀ cs as' z st' sm'
+    → FromAnchor anchor (sessionPoint z .stage)
+start-from-anchor mode anchor st sm first sm₀ s o {cs} t =
+    subst (λ (p : Point). FromAnchor anchor (p .stage)) (sym (as-plain mode anchor st sm first sm₀ s o t .1)) (starts-from (setup mode anchor (length st)) first cs)
 
 -- Second theorem: two lists of one mode and store length, any anchors, cuts, refused calls and other samples. With the same flags taken,
 -- and each sample that an evaluation of the first reads for parity equal under its number in the second: the same point, the starts less the anchors.

@@ -51,6 +51,7 @@ module _ (s : Session) (st : List ℕ) (sm : List Float) (im vo fl : List ℕ) (
   feed-refused k code some =
       let pos : eqb k 0 ≡ false = ne-eqb k 0 some in
       record {
+        number = (sym code, omega (arith, some));
         count = omega arith;
         room = λ h. absurd (omega arith);
         stored = paste-zero st (s .taken) fl;
@@ -61,9 +62,10 @@ module _ (s : Session) (st : List ℕ) (sm : List Float) (im vo fl : List ℕ) (
       }
 
   -- a record that no session handed back
-  pub feed-strange : endedPhase (s .phase) ≡ false → (Sane s → ⊥) → FeedMeets s st sm im vo fl ys (fed.Took 0 s) st sm im vo
-  feed-strange live strange =
+  pub feed-strange : codeOf ≡ 0 → endedPhase (s .phase) ≡ false → (Sane s → ⊥) → FeedMeets s st sm im vo fl ys (fed.Took 0 s) st sm im vo
+  feed-strange none live strange =
       record {
+        number = none;
         count = omega arith;
         room = λ h. absurd (omega arith);
         stored = paste-zero st (s .taken) fl;
@@ -89,6 +91,7 @@ module _ (s : Session) (st : List ℕ) (sm : List Float) (im vo fl : List ℕ) (
       let before : length (take (s .taken) st) ≡ s .taken = length-take-le (s .taken) st (omega arith) in
       let now-len : length (take (r .taken) st') ≡ r .taken = length-take-le (r .taken) st' (omega arith) in
       record {
+        number = sym code;
         count = t .count;
         room = λ _. (omega arith, sym kept);
         stored = t .stored;

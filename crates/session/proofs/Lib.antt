@@ -5,4 +5,5 @@ mod Answers
 mod Loop
 mod Feed
 mod Rooms
+pub mod Once
 pub mod Demand3

@@ -6,7 +6,7 @@ use mathlib.Core.List.{List}
 use Prim.Native.Nat.{ℕ, _+_, _-_, _*_, _/_, _%_, _≤_, _<_, _^_}
 use native.Mathlib.Nat.{sub-zero}
 use native.Mathlib.Omega.{arith}
-use lib.ListN.{length, take, length-take}
+use lib.ListN.{length, take}
 use lib.Seq.{paste, take-paste, take-all, length-take-le}
 use lib.Dec.{eqb, ltb}
 use lib.Ieee.{Float}
@@ -19,24 +19,18 @@ use Rattle.plain.specs.declared.Phase.the-variants.{Searching}
 use Rattle.plain.specs.Calls.{openCode, shortSamples}
 use Rattle.session.specs.declared.Opened.the-variants as op
 use Rattle.session.specs.Hold.{setup, keptAt, OpenMeets}
-use Rattle.session_parts.proofs.Kept.{known-fits}
 use Rattle.limits.proofs.Causes.{none}
 use Rattle.plain.proofs.Codes.{and-false}
 
 -- ---- an evaluation
 
-pub evaluate-room : (m t w k streak : ℕ) (st : List ℕ) (sm : List Float) → m ≤ 15 → w ≡ windowOf m → w ≤ t → (t - w) % 64 ≡ 0
-    → t ≤ length st → t ≤ 16777216 → k ≡ cond (robot m) (4 * t + 4) 0 → streak ≤ t
-    → (m ≤ 15)
-    × ((64 * ((t - w) / 64) + windowProbes (specOf m) ≤ length (take (t - 0) st))
-    × ((length (take (t - 0) st) ≤ 16777216) × ((length (take (k - 0) sm) ≤ 4 * length (take (t - 0) st) + 4) × (streak ≤ 16777216))))
+pub evaluate-room : (m t w streak : ℕ) (st : List ℕ) → w ≡ windowOf m → w ≤ t → (t - w) % 64 ≡ 0 → t ≤ length st → t ≤ 16777216 → streak ≤ t
+    → (64 * ((t - w) / 64) + windowProbes (specOf m) ≤ length (take (t - 0) st)) × ((length (take (t - 0) st) ≤ 16777216) × (streak ≤ 16777216))
 unfolding windowOf
-evaluate-room m t w k streak st sm low hw in-time rest fits small hk hs =
+evaluate-room m t w streak st hw in-time rest fits small hs =
     let whole : 64 * ((t - w) / 64) ≡ t - w = omega arith in
     let size : length (take (t - 0) st) ≡ t = ap (λ (n : ℕ). length (take n st)) (sub-zero t) ∙ length-take-le t st fits in
-    let lent : length (take (k - 0) sm) ≤ k = rw length-take (omega arith) in
-    let most : k ≤ 4 * t + 4 = known-fits m t k (4 * t + 4) hk (λ _. omega arith) in
-    (low, (omega arith, (omega arith, (omega arith, omega arith))))
+    (omega arith, (omega arith, omega arith))
 
 -- ---- open
 

@@ -15,7 +15,7 @@ use Rattle.plain.specs.declared.End.{End}
 use Rattle.plain.specs.declared.End.the-variants as end
 use Rattle.plain.specs.Plain.{Setup, Plain, endedPhase, opened}
 use Rattle.plain.specs.Point.{Point, stageOf, readPoint}
-use Rattle.plain.specs.Calls.{Call, feed, read, Answer, took, gave, refused, answer, after, openCode}
+use Rattle.plain.specs.Calls.{Call, feed, read, Answer, took, gave, refused, answer, after, openCode, feedCode}
 pub use Rattle.session_parts.specs.Stores.{keptAt}
 pub use Rattle.session_parts.specs.Codes.{setup, lengths}
 pub use Rattle.session_parts.specs.Phases.{positionOf, startOf}
@@ -110,11 +110,17 @@ fedWork (fed.Refused k) n w = w
 abbrev pub feedCall : List ℕ → List Float → List ℕ → List ℕ → List ℕ → List Float → Call
 feedCall flagStore sampleStore img votes flags samples = feed (lengths (length flagStore) (length sampleStore) (length img) (length votes)) flags samples
 
--- Feed. On any record and stores: no more than the piece and than F, and only the stores' next places and the work memory are written.
--- On those that stand for a plain session: its answer, and they stand for the plain session after the call.
+-- an answer against the lowest number that applies: refused with it, or not refused where there is none
+abbrev pub FeedNumber : Fed → ℕ → Type 0
+FeedNumber (fed.Took n s) code = code ≡ 0
+FeedNumber (fed.Refused k) code = (code ≡ k) × (0 < k)
+
+-- Feed. On any record and memory: the refusal; no more than the piece and than F is taken, and only the stores' next places and the work
+-- memory are written. On a record and stores that stand for a plain session: its answer, and they stand for the plain session after the call.
 pub record FeedMeets
     (s : Session) (flagStore : List ℕ) (sampleStore : List Float) (img votes flags : List ℕ) (samples : List Float)
     (r : Fed) (flagStore' : List ℕ) (sampleStore' : List Float) (img' votes' : List ℕ) : Type 0 where
+  pub number : FeedNumber r (feedCode (setupOf s) (s .phase) (lengths (length flagStore) (length sampleStore) (length img) (length votes)) flags samples)
   pub count : countOf r ≤ length flags
   pub room : 0 < countOf r → (s .taken + countOf r ≤ s .capacity) × (length flagStore ≡ s .capacity)
   pub stored : flagStore' ≡ paste flagStore (s .taken) flags (countOf r)

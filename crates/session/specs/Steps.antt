@@ -1,4 +1,4 @@
--- What the private steps of a session ensure: each does to the plain session that it stands for what the definition says.
+-- What the private steps of a session ensure (01-scope.md, "Session"): each does to the plain session that it stands for what the definition says.
 -- Definitions only.
 use mathlib.Core.Path.{_≡_}
 use Prim.Native.Nat.{ℕ, _+_, _*_, _≤_, _<_, _^_}

@@ -1,10 +1,16 @@
--- A list of calls on one session. Each step is one that the called function's `ensures` allows. Definitions only.
+-- A list of calls on one session (01-scope.md, "The plain session of demand 3"). Each step is one that the called function's `ensures` allows.
+-- Every list of calls has such a trace: each call is total, and its `ensures`, which asks nothing of record or memory, gives the step.
+-- Definitions only.
+use mathlib.Core.Path.{_≡_}
+use mathlib.Core.Bool.{false}
 use Prim.Native.Nat.{ℕ}
 use mathlib.Core.List.{List, [], _∷_}
 use lib.Ieee.{Float}
-use Rattle.plain.specs.Calls.{Call, read, Answer}
+use Rattle.modespec.specs.Sizes.{robot}
+use Rattle.plain.specs.Calls.{Call, read, Answer, refused}
 use Rattle.session.specs.declared.Session.{Session}
 use Rattle.session.specs.declared.Fed.{Fed}
+use Rattle.session.specs.declared.Fed.the-variants.{Refused}
 use Rattle.session.specs.declared.Given.{Given}
 use Rattle.session.specs.Hold.{FeedMeets, ReadMeets, answerOf, givenOf, nextOf, feedCall}
 
@@ -23,3 +29,16 @@ pub data Trace : Session → List ℕ → List Float → List Call → List Answ
       → ReadMeets s g
       → Trace s flagStore sampleStore cs as' z flagEnd sampleEnd
       → Trace s flagStore sampleStore (read ∷ cs) (givenOf g ∷ as') z flagEnd sampleEnd
+  -- a feed that was lent other stores, as of another length, and was refused
+  lent : (s : Session) (flagStore : List ℕ) (sampleStore : List Float) (otherFlags : List ℕ) (otherSamples : List Float)
+      (img votes flags : List ℕ) (samples : List Float) (k : ℕ) (otherFlags' : List ℕ) (otherSamples' : List Float) (img' votes' : List ℕ)
+      (cs : List Call) (as' : List Answer) (z : Session) (flagEnd : List ℕ) (sampleEnd : List Float)
+      → FeedMeets s otherFlags otherSamples img votes flags samples (Refused k) otherFlags' otherSamples' img' votes'
+      → Trace s flagStore sampleStore cs as' z flagEnd sampleEnd
+      → Trace s flagStore sampleStore (feedCall otherFlags otherSamples img votes flags samples ∷ cs) (refused k ∷ as') z flagEnd sampleEnd
+  -- without parity samples nothing is kept in the sample store, and the next call may be lent another one
+  another : (s : Session) (flagStore : List ℕ) (sampleStore otherSamples : List Float)
+      (cs : List Call) (as' : List Answer) (z : Session) (flagEnd : List ℕ) (sampleEnd : List Float)
+      → robot (s .mode) ≡ false
+      → Trace s flagStore otherSamples cs as' z flagEnd sampleEnd
+      → Trace s flagStore sampleStore cs as' z flagEnd sampleEnd

@@ -66,8 +66,7 @@ pub fn window(mode: u8) -> usize
     requires { ⌜ mode ≤ 15 ⌝ }
     ensures { λ r. ⌜ WindowIs mode r ⌝ }
 {
-    let spec = modespec::for_mode(mode);
-    modespec::window_probes(spec)
+    modespec::mode_window_probes(mode)
 }
 
 // P: the flags of a picture.

@@ -12,9 +12,9 @@ use lib.Dec.{T, ltb, ltb→lt, nltb→le}
 use lib.Ieee.{Float, nan, binary64, add}
 use Rattle.columns.specs.Columns.{listTo, probeOf}
 use Rattle.columns.proofs.Lists.{length-list, getD-list}
-use Rattle.pulse.specs.Sums.{sumFrom}
-use Rattle.pulse.proofs.Sums.{sum-none, sum-more, sum-below}
-use Rattle.sync.specs.Fold.{lineSeconds, columnSeconds, flagAt, foldFlag, columnCount, foldOf, Added, AddedIn}
+use Rattle.pulse.proofs.Sums.{sum-more, sum-below}
+use Rattle.sync.specs.Fold.{lineSeconds, columnSeconds, flagAt, foldFlag, columnCount, foldOf}
+use Rattle.sync.specs.Steps.{Added, AddedIn}
 
 -- ---- a line
 

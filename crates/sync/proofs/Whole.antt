@@ -1,35 +1,28 @@
--- Laws of `find_sync`: the parts put together, the rows that it takes, and flags that are all 0. Assumes nothing.
+-- Laws of `find_sync`: the parts put together, and the rows that it takes. Assumes nothing.
 use mathlib.Core.Path.{_≡_, refl, sym, ap, _∙_}
 use mathlib.Core.Bool.{Bool, true, false, cond, not}
-use mathlib.Core.List.{List, [], _∷_}
-use Prim.Native.Nat.{ℕ, zero, suc, _+_, _-_, _*_, _≤_, _<_, min}
+use mathlib.Core.List.{List}
+use Prim.Native.Nat.{ℕ, zero, suc, _+_, _-_, _≤_, _<_, min}
 use native.Mathlib.Omega.{arith}
-use lib.ListN.{length, getD, take, replicate, List·getD-eq-default}
+use lib.ListN.{length, getD, take, replicate}
 use lib.Seq.{take-all}
-use lib.Dec.{T, leb, leb→le, nleb→lt, ltb, ltb→lt, nltb→le, eqb}
+use lib.Dec.{T, leb, leb→le, nleb→lt, ltb, eqb}
 use lib.IntN.{ℤ}
-use lib.Ieee.{Float, binary64, add}
+use lib.Ieee.{Float}
 use Rattle.modespec.specs.declared.ModeSpec.{ModeSpec}
 use Rattle.modespec.specs.ModeSpec.{specOf}
-use Rattle.modespec.specs.Sizes.{radioLines, imageProbes, lineWidth}
+use Rattle.modespec.specs.Sizes.{radioLines, imageProbes}
 use Rattle.modespec.proofs.Rows.{image-lines, radio-lines, line-width}
 use Rattle.hough.specs.declared.Passes.{Passes}
 use Rattle.hough.specs.declared.SlantDeg.the-variants as SlantDeg
-use Rattle.columns.specs.Columns.{probeOf}
-use Rattle.columns.proofs.Lists.{getD-list}
-use Rattle.hough.specs.Pass.{passOf}
-use Rattle.hough.specs.Passes.{passesFrom, passesOf}
-use Rattle.hough.proofs.Meaning.{zero-flags}
-use Rattle.pulse.specs.Sums.{sumFrom, largest, firstWith, FirstLargest}
-use Rattle.pulse.specs.Edge.{fourFrom, fallAt, slipped, edgeOf}
+use Rattle.hough.specs.Passes.{passesOf}
+use Rattle.pulse.specs.Sums.{largest, firstWith}
+use Rattle.pulse.specs.Edge.{fallAt, slipped, edgeOf}
 use Rattle.pulse.specs.Quality.{qualityOf}
-use Rattle.pulse.proofs.Sums.{sum-below}
 use Rattle.pulse.proofs.Columns.{columns-fit}
-use Rattle.pulse.proofs.Answers.{edge-none}
-use Rattle.sync.specs.Fold.{lineSeconds, columnSeconds, flagAt, foldFlag, columnCount, foldOf}
+use Rattle.sync.specs.Fold.{foldOf}
 use Rattle.sync.specs.declared.SyncResult.{SyncResult}
 use Rattle.sync.specs.FindSync.{skipOf, alignedBy, alignedOf, syncResultOf, SpecFits}
-use Rattle.sync.proofs.Folding.{fold-length}
 
 -- every mode's row is one that the inner form takes
 pub mode-fits : (mode : ℕ) → SpecFits (specOf mode)
@@ -101,47 +94,3 @@ take-least p l = go (leb p (length l)) (leb→le p (length l)) (nleb→lt p (len
 pub sync-of : (spec : ModeSpec) (rate : Float) (flags read : List ℕ) → read ≡ take (imageProbes spec rate) flags → alignedOf read spec (passesOf spec rate read) ≡ syncResultOf spec rate flags
 unfolding syncResultOf
 sync-of spec rate flags read e = ap (λ (l : List ℕ). alignedOf l spec (passesOf spec rate l)) e
-
--- ---- flags that are all 0
-
-take-zeros : (n : ℕ) (l : List ℕ) → ((k : ℕ) → getD l k 0 ≡ 0) → (k : ℕ) → getD (take n l) k 0 ≡ 0
-take-zeros zero l h k = refl
-take-zeros (suc n) [] h k = refl
-take-zeros (suc n) (x ∷ l) h zero = h 0
-take-zeros (suc n) (x ∷ l) h (suc k) = take-zeros n l (λ j. h (suc j)) k
-
--- no slant, and the rate stays
-passes-zeros : (spec : ModeSpec) (rate : Float) (flags : List ℕ) → ((k : ℕ) → getD flags k 0 ≡ 0) → passesOf spec rate flags ≡ record { rate = rate; «slant_deg» = SlantDeg.None }
-unfolding passesOf passesFrom
-passes-zeros spec rate flags h = rw (zero-flags (passOf flags rate spec (lineWidth spec)) h)
-
-fold-zeros : (flags : List ℕ) (rate line : Float) (n : ℕ) → ((k : ℕ) → getD flags k 0 ≡ 0) → (x : ℕ) → x < 700 → getD (foldOf flags rate line n) x 0 ≡ 0
-unfolding foldOf foldFlag flagAt
-fold-zeros flags rate line n h x l =
-    let b : columnCount flags rate line n x ≤ n * 0 = sum-below (foldFlag flags rate line x) 0 0 n (λ y. omega (arith, h (probeOf (add binary64 (lineSeconds line y) (columnSeconds line x)) rate))) in
-    getD-list (columnCount flags rate line n) 700 x 0 l ∙ omega arith
-
-edge-zeros : (flags : List ℕ) (rate line : Float) (n : ℕ) → ((k : ℕ) → getD flags k 0 ≡ 0) → edgeOf (foldOf flags rate line n) ≡ 0
-edge-zeros flags rate line n h =
-    let m = foldOf flags rate line n in
-    let z : (x : ℕ) → getD m x 0 ≤ 0 = λ x. any (ltb x 700) (ltb→lt x 700) (nltb→le x 700) in
-    let f : (x : ℕ) → fallAt m x ≤ 0 = λ x. omega (arith, sum-below (λ k. getD m k 0) 0 x 4 z) in
-    sym (edge-none m 0 0 (record { within = omega arith; reached = omega (arith, f 0); highest = λ k l. f k; first = λ k l. absurd (omega arith) }) refl)
-  where
-    any : {x : ℕ} (t : Bool) → (T t → x < 700) → (T (not t) → 700 ≤ x) → getD (foldOf flags rate line n) x 0 ≤ 0
-    any {x} true a b = omega (arith, fold-zeros flags rate line n h x (a tt))
-    any {x} false a b = let l : length (foldOf flags rate line n) ≤ x = omega (arith, fold-length flags rate line n, b tt) in omega (arith, List·getD-eq-default (foldOf flags rate line n) 0 l)
-
--- what `find_sync` answers then: the starting rate, no slant, and the skip of an edge at column 0
-pub silent : (spec : ModeSpec) (rate : Float) (flags : List ℕ) → ((k : ℕ) → getD flags k 0 ≡ 0)
-    → (syncResultOf spec rate flags .«adjusted_rate_hz» ≡ rate) × (syncResultOf spec rate flags .«skip_samples» ≡ skipOf 0 spec rate) × (syncResultOf spec rate flags .«slant_deg» ≡ SlantDeg.None)
-unfolding syncResultOf alignedOf alignedBy
-silent spec rate flags h =
-    let read = take (imageProbes spec rate) flags in
-    let z : (k : ℕ) → getD read k 0 ≡ 0 = take-zeros (imageProbes spec rate) flags h in
-    let p = passes-zeros spec rate read z in (
-      ap (λ (t : Passes). t .rate) p,
-      ap (λ (t : Passes). skipOf (edgeOf (foldOf read (t .rate) (spec .«line_seconds») (spec .«image_lines»))) spec (t .rate)) p
-          ∙ ap (λ (e : ℕ). skipOf e spec rate) (edge-zeros read rate (spec .«line_seconds») (spec .«image_lines») z),
-      ap (λ (t : Passes). t .«slant_deg») p,
-    )

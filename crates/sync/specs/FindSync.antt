@@ -1,20 +1,22 @@
--- `find_sync` (01-scope.md, "Slant and rate", "Numbers given by cause"): what it answers, and what it does to the work memory. Definitions only.
+-- `find_sync` (01-scope.md, "Slant and rate", "Numbers given by cause", "Known answers"): what it answers, and what it does to the work memory.
+-- Definitions only.
 use mathlib.Core.Path.{_≡_}
 use Prim.Native.Nat.{ℕ, zero, suc, _≤_}
-use mathlib.Core.Bool.{Bool, not, _&&_, _||_}
+use mathlib.Core.Bool.{Bool, false, not, _&&_, _||_}
 use mathlib.Core.List.{List, [], _∷_}
 use lib.ListN.{length, take}
 use lib.Dec.{ltb}
-use lib.IntN.{ℤ}
-use lib.Ieee.{Float, binary64, add, sub, mul, div, le, ofInt, toSigned}
+use lib.IntN.{ℤ, pos}
+use lib.Ieee.{Float, fin, binary64, add, sub, mul, div, le, ofInt, toSigned}
 use Rattle.limits.specs.Refusals.{_⇒_, firstOf}
 use Rattle.limits.specs.Ranges.{anyAbove}
-use Rattle.ieee.specs.Numbers.{whole}
+use Rattle.ieee.specs.Numbers.{ofNat}
 use Rattle.ieee.specs.Casts.{roundAway}
 use Rattle.modespec.specs.declared.ModeSpec.{ModeSpec}
 use Rattle.modespec.specs.ModeSpec.{specOf}
 use Rattle.modespec.specs.Sizes.{radioLines, skipCorrection, imageProbes, lineWidth}
 use Rattle.hough.specs.declared.Passes.{Passes}
+use Rattle.hough.specs.declared.SlantDeg.the-variants.{None}
 use Rattle.hough.specs.Memory.{cleared}
 use Rattle.hough.specs.Passes.{passesOf}
 use Rattle.pulse.specs.Quality.{PulseFits, qualityOf}
@@ -28,7 +30,7 @@ use Rattle.sync.specs.declared.SyncAnswer.the-variants.{Found, Refused}
 unfoldable pub skipSeconds : ℕ → ModeSpec → Float
 unfolding add sub mul div ofInt skipCorrection
 skipSeconds edge spec =
-    add binary64 (sub binary64 (mul binary64 (div binary64 (whole edge) (whole 700)) (spec .«line_seconds»)) (spec .«sync_seconds»)) (skipCorrection spec)
+    add binary64 (sub binary64 (mul binary64 (div binary64 (ofNat edge) (ofNat 700)) (spec .«line_seconds»)) (spec .«sync_seconds»)) (skipCorrection spec)
 
 -- the skip in samples, rounded
 unfoldable pub skipOf : ℕ → ModeSpec → Float → ℤ
@@ -53,6 +55,10 @@ alignedOf flags spec passes = alignedBy spec passes (foldOf flags (passes .rate)
 unfoldable pub syncResultOf : ModeSpec → Float → List ℕ → SyncResult
 syncResultOf spec rate flags = let read = take (imageProbes spec rate) flags in alignedOf read spec (passesOf spec rate read)
 
+-- what flags that are all 0 give: the starting rate, no slant, the skip of an edge at column 0, quality 0. proofs/Silence.antt shows it.
+abbrev pub silentResult : ModeSpec → Float → SyncResult
+silentResult spec rate = record { «adjusted_rate_hz» = rate; «skip_samples» = skipOf 0 spec rate; «slant_deg» = None; «sync_quality» = fin false 0 (pos 0) }
+
 -- the row is one that the inner form takes; every mode's is
 pub record SpecFits (spec : ModeSpec) : Type 0 where
   pub width : lineWidth spec ≤ 65536
@@ -71,7 +77,7 @@ pub record SyncDone (answer r : SyncResult) (im im′ vo vo′ : List ℕ) : Typ
 -- from 8,000 to 48,000, which no NaN and no infinity is
 unfoldable pub rateAllowed : Float → Bool
 unfolding le ofInt
-rateAllowed rate = le (whole 8000) rate && le rate (whole 48000)
+rateAllowed rate = le (ofNat 8000) rate && le rate (ofNat 48000)
 
 -- the lowest number that applies, or 0: mode, rate, work memory, how many flags, a flag
 unfoldable pub syncRefusal : List ℕ → Float → ℕ → ℕ → ℕ → ℕ

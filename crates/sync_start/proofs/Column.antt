@@ -14,7 +14,7 @@ use Rattle.modespec.specs.ModeSpec.{specOf}
 use Rattle.modespec.proofs.Rows as Rows
 use Rattle.pulse.specs.Sums.{largest, firstWith}
 use Rattle.pulse.specs.PulseWindow.{bestWindow, windowSum}
-use Rattle.sync_start.specs.Evaluate.{Sized}
+use Rattle.sync_start.specs.Steps.{Sized}
 
 -- some place has the largest value
 attained : (f : ℕ → ℕ) (n : ℕ) → (m : ℕ) × (m < suc n) × (f m ≡ largest f (suc n))

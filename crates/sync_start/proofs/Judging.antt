@@ -13,7 +13,8 @@ use Rattle.pulse.specs.Quality.{qualityOf}
 use Rattle.sync_start.specs.declared.Located.{Located}
 use Rattle.sync_start.specs.declared.Located.the-variants.{Nowhere, At}
 use Rattle.window_fold.specs.Fold.{foldTo, foldOf}
-use Rattle.sync_start.specs.Evaluate.{countsOf, windowQuality, startQuality, streakAfter, locateIn, locateOf, withoutStart, withStart, evaluationOf}
+use Rattle.sync_start.specs.Evaluate.{countsOf, windowQuality, startQuality, streakAfter, locateIn, locateOf, evaluationBy}
+use Rattle.sync_start.specs.Steps.{withoutStart, withStart}
 
 module _ (mode j : ℕ) (flags : List ℕ) (spec : ModeSpec) (lines : ℕ) (counts : List ℕ) (s : spec ≡ specOf mode) (l : lines ≡ windowLines spec) where
   pub counts-are : (window : List ℕ) (samples : Float) → samples ≡ lineSamples spec → window ≡ drop (64 * j) flags → counts ≡ foldTo samples window lines
@@ -26,19 +27,19 @@ module _ (mode j : ℕ) (flags : List ℕ) (spec : ModeSpec) (lines : ℕ) (coun
     unfolding windowQuality
     quality-is = rw (← k, ← s, ← l) q
 
-    pub weak : lt quality startQuality ≡ true → withoutStart quality 0 ≡ evaluationOf mode j flags samples streak
-    unfolding evaluationOf streakAfter
+    pub weak : lt quality startQuality ≡ true → withoutStart quality 0 ≡ evaluationBy mode j flags samples streak
+    unfolding evaluationBy streakAfter
     weak h = rw (← quality-is, h)
 
-    pub short : lt quality startQuality ≡ false → streak + 1 < 3 → withoutStart quality (streak + 1) ≡ evaluationOf mode j flags samples streak
-    unfolding evaluationOf streakAfter
+    pub short : lt quality startQuality ≡ false → streak + 1 < 3 → withoutStart quality (streak + 1) ≡ evaluationBy mode j flags samples streak
+    unfolding evaluationBy streakAfter
     short h n = rw (← quality-is, h, lt-ltb (streak + 1) 3 n)
 
     module _ (start : Located) (h : lt quality startQuality ≡ false) (n : 3 ≤ streak + 1) (p : start ≡ locateIn mode spec (64 * j) counts flags samples) where
-      pub missed : start ≡ Nowhere → withoutStart quality (streak + 1) ≡ evaluationOf mode j flags samples streak
-      unfolding evaluationOf streakAfter locateOf
+      pub missed : start ≡ Nowhere → withoutStart quality (streak + 1) ≡ evaluationBy mode j flags samples streak
+      unfolding evaluationBy streakAfter locateOf
       missed e = rw (← quality-is, h, le-ltb (streak + 1) 3 n, ← k, ← s, ← p, e)
 
-      pub located : (x : ℕ) → start ≡ At x → withStart quality (streak + 1) x ≡ evaluationOf mode j flags samples streak
-      unfolding evaluationOf streakAfter locateOf
+      pub located : (x : ℕ) → start ≡ At x → withStart quality (streak + 1) x ≡ evaluationBy mode j flags samples streak
+      unfolding evaluationBy streakAfter locateOf
       located x e = rw (← quality-is, h, le-ltb (streak + 1) 3 n, ← k, ← s, ← p, e)

@@ -13,7 +13,7 @@ use lib.Ieee.Fits.{two, down-pos, round-is}
 use lib.Ieee.Order.{transfer, round-mono, kept, drop}
 use lib.Ieee.Positive.{num, den, den-pos, value→cross}
 use lib.Ieee.Scale.{grid, overflow, round-val}
-use Rattle.ieee.specs.Numbers.{whole}
+use Rattle.ieee.specs.Numbers.{ofNat}
 use Rattle.ieee.specs.Casts.{roundAway, maximum}
 use Rattle.ieee.proofs.Unsigned.{unsigned, unsigned-of-value, le→cross}
 
@@ -187,7 +187,7 @@ part-under k (fin s m e) r u =
     more : (d : ℕ) → d ≤ 700 * d
     more d = omega arith
 
-pub whole-under : (n k : ℕ) → k < 1024 → n ≤ 2 ^ k → Under k (whole n)
+pub whole-under : (n k : ℕ) → k < 1024 → n ≤ 2 ^ k → Under k (ofNat n)
 unfolding ofInt
 whole-under n k r h = round-under binary64 false n 1 k (omega arith) r (le-trans h (le-of-eq (sym (mul-one (2 ^ k)))))
 

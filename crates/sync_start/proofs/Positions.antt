@@ -6,11 +6,10 @@ use Prim.Native.Nat.{ℕ, zero, suc, _+_, _-_, _*_, _^_, _≤_, _<_, min}
 use native.Mathlib.Nat.{le-trans}
 use native.Mathlib.Omega.{arith}
 use lib.Dec.{T, leb, lit<, lit≤}
-use lib.IntN.{pos}
-use lib.Ieee.{Float, fin, binary64, sub, mul, ofInt}
+use lib.Ieee.{Float, binary64, sub, mul, ofInt}
 use lib.Ieee.Fits.{and-l, and-r}
 use lib.ListN.{drop}
-use Rattle.ieee.specs.Numbers.{whole}
+use Rattle.ieee.specs.Numbers.{ofNat}
 use Rattle.modespec.specs.declared.ModeSpec.{ModeSpec}
 use Rattle.modespec.specs.ModeSpec.{specOf, rows}
 use Rattle.modespec.specs.Sizes.{lineSamples, pulseOffset, windowLines, workingRate}
@@ -92,14 +91,15 @@ timed mode =
 -- ---- the position
 
 rate-under : Under 14 workingRate
+unfolding ofInt
 rate-under = lit≤ tt
 
 module _ (spec : ModeSpec) (t : Timed spec) where
   lines-under : (column y : ℕ) → column ≤ 700 → y ≤ 64 → Under 11 (linesAt y column)
   unfolding linesAt columnPart ofInt
   lines-under column y c h =
-      add-under 10 (whole y) (columnPart 700 column) (lit< tt) (whole-under y 10 (lit< tt) (le-trans h (lit≤ tt)))
-      (part-under 10 (whole column) (lit< tt) (whole-under column 10 (lit< tt) (le-trans c (lit≤ tt))))
+      add-under 10 (ofNat y) (columnPart 700 column) (lit< tt) (whole-under y 10 (lit< tt) (le-trans h (lit≤ tt)))
+      (part-under 10 (ofNat column) (lit< tt) (whole-under column 10 (lit< tt) (le-trans c (lit≤ tt))))
 
   start-under : (first column y : ℕ) → first ≤ 16777216 → column ≤ 700 → y ≤ 64 → Under 28 (lineStart spec first column y)
   unfolding lineStart
@@ -109,7 +109,7 @@ module _ (spec : ModeSpec) (t : Timed spec) where
       let d = sub binary64 (mul binary64 (linesAt y column) (spec .«line_seconds»)) (pulseOffset spec) in
       let q : Under 27 (mul binary64 d workingRate) = mul-under 13 14 d workingRate (lit< tt) (sub-under 12 _ _ (lit< tt) p o) rate-under in
       let four : 4 * first ≤ 2 ^ 27 = quarter first f in
-      add-under 27 (whole (4 * first)) (mul binary64 d workingRate) (lit< tt) (whole-under (4 * first) 27 (lit< tt) four) q
+      add-under 27 (ofNat (4 * first)) (mul binary64 d workingRate) (lit< tt) (whole-under (4 * first) 27 (lit< tt) four) q
     where
       quarter : (n : ℕ) → n ≤ 16777216 → 4 * n ≤ 134217728
       quarter n h = omega arith
@@ -119,15 +119,16 @@ module _ (spec : ModeSpec) (t : Timed spec) where
   even-under true x u = sub-under 28 x (lineSamples spec) (lit< tt) u (weaker 14 28 (lineSamples spec) (lit≤ tt) (t .samples))
   even-under false x u = weaker 28 29 x (lit≤ tt) u
 
-  lead-under : Under 16 (mul binary64 (mul binary64 (fin false 1 (pos 1)) (spec .«sync_seconds»)) workingRate)
+  lead-under : Under 16 (mul binary64 (mul binary64 (ofNat 2) (spec .«sync_seconds»)) workingRate)
+  unfolding ofInt
   lead-under =
-      mul-under 2 14 (mul binary64 (fin false 1 (pos 1)) (spec .«sync_seconds»)) workingRate (lit< tt)
-      (mul-under 1 1 (fin false 1 (pos 1)) (spec .«sync_seconds») (lit< tt) (lit≤ tt) (t .sync)) rate-under
+      mul-under 2 14 (mul binary64 (ofNat 2) (spec .«sync_seconds»)) workingRate (lit< tt)
+      (mul-under 1 1 (ofNat 2) (spec .«sync_seconds») (lit< tt) (lit≤ tt) (t .sync)) rate-under
 
   position-under : (x : Float) → Under 29 x → positionOf spec x ≤ 2 ^ 31
   unfolding positionOf
   position-under x u =
-      let l = mul binary64 (mul binary64 (fin false 1 (pos 1)) (spec .«sync_seconds»)) workingRate in
+      let l = mul binary64 (mul binary64 (ofNat 2) (spec .«sync_seconds»)) workingRate in
       cut-under 31 _ (away-under 30 _ (lit< tt) (held-under 30 (sub binary64 x l) (sub-under 29 x l (lit< tt) u (weaker 16 29 l (lit≤ tt) lead-under))))
 
   pub position-most : (odd : Bool) (first column y : ℕ) → first ≤ 16777216 → column ≤ 700 → y ≤ 64

@@ -1,17 +1,17 @@
 -- One evaluation (01-scope.md, "Start search"): `evaluate` and `locate_start` of sync_start.rs, and the samples that it reads. Definitions only.
--- j is the evaluation's number, `flags` are the flags taken, and `samples` the samples known, each with number n at place n.
-use Prim.Native.Nat.{ℕ, _+_, _*_, _≤_}
+-- j is the evaluation's number. Flag and sample n stand at place n of their lists.
+use Prim.Native.Nat.{ℕ, _+_, _*_}
 use mathlib.Core.Bool.{Bool, cond, false}
 use mathlib.Core.List.{List, []}
-use lib.ListN.{length, drop}
+use lib.ListN.{length, take, drop}
 use lib.Dec.{ltb}
 use lib.IntN.{pos}
 use lib.Ieee.{Float, fin, binary32, binary64, round, add, sub, mul, lt, toUnsigned}
-use Rattle.ieee.specs.Numbers.{whole}
+use Rattle.ieee.specs.Numbers.{ofNat}
 use Rattle.ieee.specs.Casts.{roundAway, maximum}
 use Rattle.modespec.specs.declared.ModeSpec.{ModeSpec}
 use Rattle.modespec.specs.ModeSpec.{specOf}
-use Rattle.modespec.specs.Sizes.{robot, lineSamples, windowLines, pulseColumns, pulseOffset, workingRate}
+use Rattle.modespec.specs.Sizes.{robot, lineSamples, windowLines, windowProbes, pulseColumns, pulseOffset, workingRate}
 use Rattle.pulse.specs.PulseWindow.{bestWindow}
 use Rattle.pulse.specs.Quality.{qualityOf}
 use Rattle.window_fold.specs.Fold.{linesAt, foldOf}
@@ -28,7 +28,7 @@ use Rattle.sync_start.specs.declared.Evaluation.{Evaluation}
 -- 4 × first + ((y + column / 700) × L - pulse offset) × 11,025: the sample at which line y starts. The window begins at flag `first`.
 unfoldable pub lineStart : ModeSpec → ℕ → ℕ → ℕ → Float
 lineStart spec first column y =
-    add binary64 (whole (4 * first))
+    add binary64 (ofNat (4 * first))
     (mul binary64 (sub binary64 (mul binary64 (linesAt y column) (spec .«line_seconds»)) (pulseOffset spec)) workingRate)
 
 -- a picture begins on an even line, so an odd one is left for the line before it
@@ -40,7 +40,7 @@ unfoldable pub positionOf : ModeSpec → Float → ℕ
 positionOf spec start =
     toUnsigned 64
     (roundAway binary64
-    (maximum (sub binary64 start (mul binary64 (mul binary64 (fin false 1 (pos 1)) (spec .«sync_seconds»)) workingRate)) (fin false 0 (pos 0))))
+    (maximum (sub binary64 start (mul binary64 (mul binary64 (ofNat 2) (spec .«sync_seconds»)) workingRate)) (fin false 0 (pos 0))))
 
 -- `locate_start`, for the first pulsed line
 abbrev pub locatedBy : FirstLine → ℕ → ModeSpec → ℕ → ℕ → List Float → Located
@@ -58,12 +58,6 @@ lineIn spec first counts flags = firstPulsedLine spec first flags (columnOf spec
 
 unfoldable pub locateIn : ℕ → ModeSpec → ℕ → List ℕ → List ℕ → List Float → Located
 locateIn mode spec first counts flags samples = locatedBy (lineIn spec first counts flags) mode spec first (columnOf spec counts) samples
-
--- a row whose window and pulse are of a usual size, as those of all the modes are
-pub record Sized (spec : ModeSpec) : Type 0 where
-  pub lines : windowLines spec ≤ 64
-  pub some : 1 ≤ pulseColumns spec 700
-  pub most : pulseColumns spec 700 ≤ 700
 
 -- ---- the evaluation
 
@@ -85,18 +79,27 @@ windowQuality mode j flags = qualityOf (countsOf mode j flags) (specOf mode) (wi
 unfoldable pub streakAfter : Float → ℕ → ℕ
 streakAfter quality streak = cond (lt quality startQuality) 0 (streak + 1)
 
-abbrev pub withoutStart : Float → ℕ → Evaluation
-withoutStart quality streak = record { quality = quality; streak = streak; start = Nowhere }
-
-abbrev pub withStart : Float → ℕ → ℕ → Evaluation
-withStart quality streak position = record { quality = quality; streak = streak; start = At position }
-
--- the start is looked for where the streak is three at least. Where there is none, the streak stays.
-unfoldable pub evaluationOf : ℕ → ℕ → List ℕ → List Float → ℕ → Evaluation
-evaluationOf mode j flags samples streak =
+-- the evaluation by all of `flags` and `samples`: those taken and known. The start is looked for where the streak is three at least.
+-- Where there is none, the streak stays.
+unfoldable pub evaluationBy : ℕ → ℕ → List ℕ → List Float → ℕ → Evaluation
+evaluationBy mode j flags samples streak =
     let quality = windowQuality mode j flags in
     let next = streakAfter quality streak in
     record { quality = quality; streak = next; start = cond (ltb next 3) Nowhere (locateOf mode j flags samples) }
+
+-- ---- the flags and samples that it is made from
+
+-- 64j + w: the flags taken when evaluation j happens
+abbrev pub takenAt : ℕ → ℕ → ℕ
+takenAt mode j = 64 * j + windowProbes (specOf mode)
+
+-- samples numbered below 4 × (taken + 1) are known then
+abbrev pub knownAt : ℕ → ℕ → ℕ
+knownAt mode j = 4 * (takenAt mode j + 1)
+
+-- evaluation j. Flags that come later read as 0, whatever the list has there, and samples that come later are not known.
+unfoldable pub evaluationOf : ℕ → ℕ → List ℕ → List Float → ℕ → Evaluation
+evaluationOf mode j flags samples streak = evaluationBy mode j (take (takenAt mode j) flags) (take (knownAt mode j) samples) streak
 
 -- ---- the samples that an evaluation reads
 
@@ -107,9 +110,12 @@ readsBy (Line y) spec first flags column = readsTo spec (4 * (length flags + 1))
 unfoldable pub readsIn : ModeSpec → ℕ → List ℕ → List ℕ → List ℕ
 readsIn spec first counts flags = readsBy (lineIn spec first counts flags) spec first flags (columnOf spec counts)
 
--- none unless a Robot 24 or 36 is located. Samples numbered below 4 × (taken + 1) are known.
-unfoldable pub parityReads : ℕ → ℕ → List ℕ → ℕ → List ℕ
-parityReads mode j flags streak =
+-- none unless a Robot 24 or 36 is located
+unfoldable pub readsOf : ℕ → ℕ → List ℕ → ℕ → List ℕ
+readsOf mode j flags streak =
     cond (robot mode)
     (cond (ltb (streakAfter (windowQuality mode j flags) streak) 3) [] (readsIn (specOf mode) (64 * j) (countsOf mode j flags) flags))
     []
+
+unfoldable pub parityReads : ℕ → ℕ → List ℕ → ℕ → List ℕ
+parityReads mode j flags streak = readsOf mode j (take (takenAt mode j) flags) streak

@@ -1,2 +1,3 @@
--- One evaluation of the start search. Definitions only.
+-- One evaluation of the start search (01-scope.md, "Start search"). Definitions only.
 pub mod Evaluate
+pub mod Steps

@@ -8,7 +8,8 @@ ghost use lib.ListN.{length};
 ghost use Rattle.modespec.specs.ModeSpec.{specOf};
 ghost use Rattle.modespec.specs.Sizes as Sizes;
 ghost use Rattle.sync_start.specs.Evaluate as Evaluate;
-ghost use Rattle.sync_start.specs.Evaluate.{Sized};
+ghost use Rattle.sync_start.specs.Steps as Steps;
+ghost use Rattle.sync_start.specs.Steps.{Sized};
 
 // Where a picture starts, as a sample counted from the anchor.
 pub enum Located {
@@ -107,7 +108,7 @@ fn locate(
 
 // An evaluation without a start, and one with it.
 fn nowhere(quality: f32, streak: u64) -> Evaluation
-    ensures { λ r. ⌜ r ≡ Evaluate.withoutStart quality streak ⌝ }
+    ensures { λ r. ⌜ r ≡ Steps.withoutStart quality streak ⌝ }
 {
     Evaluation {
         quality,
@@ -117,7 +118,7 @@ fn nowhere(quality: f32, streak: u64) -> Evaluation
 }
 
 fn found(quality: f32, streak: u64, position: u64) -> Evaluation
-    ensures { λ r. ⌜ r ≡ Evaluate.withStart quality streak position ⌝ }
+    ensures { λ r. ⌜ r ≡ Steps.withStart quality streak position ⌝ }
 {
     Evaluation {
         quality,
@@ -126,15 +127,10 @@ fn found(quality: f32, streak: u64, position: u64) -> Evaluation
     }
 }
 
-// One evaluation, over the window that begins at flag 64j. `flags` are the flags taken, and `samples` the samples known:
-// nothing beyond either is read.
-pub fn evaluate(mode: u8, j: usize, flags: &[u8], samples: &[f32], streak: u64) -> Evaluation
-    requires { ⌜ mode ≤ 15 ⌝ }
-    requires { ⌜ 64 * j + Sizes.windowProbes (specOf mode) ≤ length (now flags) ⌝ }
-    requires { ⌜ length (now flags) ≤ 16777216 ⌝ }
-    requires { ⌜ length (now samples) ≤ 4 * length (now flags) + 4 ⌝ }
-    requires { ⌜ streak ≤ 16777216 ⌝ }
-    ensures { λ r. ⌜ r ≡ Evaluate.evaluationOf mode j (now (flags .entry)) (now (samples .entry)) streak ⌝ }
+// The evaluation over the window that begins at flag 64j, by the flags and samples lent: nothing beyond either is read.
+fn evaluate_by(mode: u8, j: usize, flags: &[u8], samples: &[f32], streak: u64) -> Evaluation
+    requires { ⌜ (64 * j ≤ length (now flags)) × (length (now flags) ≤ 16777216) × (streak ≤ 16777216) ⌝ }
+    ensures { λ r. ⌜ r ≡ Evaluate.evaluationBy mode j (now (flags .entry)) (now (samples .entry)) streak ⌝ }
 {
     let spec = modespec::for_mode(mode);
     let lines = modespec::window_lines(spec);
@@ -154,4 +150,17 @@ pub fn evaluate(mode: u8, j: usize, flags: &[u8], samples: &[f32], streak: u64) 
         Located::Nowhere => nowhere(quality, next),
         Located::At(position) => found(quality, next, position),
     }
+}
+
+// Evaluation j. The flags and samples behind those taken when it happens change nothing.
+pub fn evaluate(mode: u8, j: usize, flags: &[u8], samples: &[f32], streak: u64) -> Evaluation
+    requires { ⌜ 64 * j + Sizes.windowProbes (specOf mode) ≤ length (now flags) ⌝ }
+    requires { ⌜ length (now flags) ≤ 16777216 ⌝ }
+    requires { ⌜ streak ≤ 16777216 ⌝ }
+    ensures { λ r. ⌜ r ≡ Evaluate.evaluationOf mode j (now (flags .entry)) (now (samples .entry)) streak ⌝ }
+{
+    let w = modespec::mode_window_probes(mode);
+    let taken = EVAL_EVERY_PROBES * j + w;
+    let known = limits::min(4 * (taken + 1), samples.len());
+    evaluate_by(mode, j, &flags[..taken], &samples[..known], streak)
 }

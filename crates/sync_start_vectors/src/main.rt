@@ -29,13 +29,6 @@ struct Head {
     z: u64,
 }
 
-// w of a mode.
-fn window(mode: u8) -> usize
-    ensures { λ r. ⌜ r ≡ Sizes.windowProbes (specOf mode) ⌝ }
-{
-    modespec::window_probes(modespec::for_mode(mode))
-}
-
 // What stands for an evaluation that no search makes: its streak is none.
 fn impossible() -> Evaluation {
     Evaluation {
@@ -74,7 +67,7 @@ fn lent(mode: u8, w: usize, j: usize, streak: u64, flags: &[u8], samples: &[f32]
 }
 
 fn evaluation(mode: u8, j: u64, streak: u64, flags: &[u8], samples: &[f32]) -> Evaluation {
-    let w = window(mode);
+    let w = modespec::mode_window_probes(mode);
     if mode > 15 {
         return impossible();
     }
@@ -150,7 +143,7 @@ fn search(mode: u8, made: usize, flags: &[u8], samples: &[f32], qualities: &[u8]
 
 // Whether a search over n flags that has made so many evaluations makes no more.
 fn over(mode: u8, made: usize, n: usize, last: Evaluation) -> bool {
-    let w = window(mode);
+    let w = modespec::mode_window_probes(mode);
     if found(last) {
         return true;
     }

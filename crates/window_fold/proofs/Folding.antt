@@ -12,7 +12,8 @@ use lib.Ieee.{Float}
 use lib.ListN.{length, getD, replicate, List·getD-eq-default}
 use lib.Seq.{ext-getD}
 use Rattle.columns.specs.Columns.{probeOf}
-use Rattle.window_fold.specs.Fold.{hitBy, hitAt, hitsTo, linesAt, foldTo, bitAt, placesOf, addedTo}
+use Rattle.window_fold.specs.Fold.{hitBy, hitAt, hitsTo, linesAt, foldTo}
+use Rattle.window_fold.specs.Steps.{bitAt, placesOf, addedTo}
 use Rattle.columns.proofs.Lists.{length-list, getD-list, zero-list}
 
 -- ---- one flag

@@ -6,14 +6,14 @@ use mathlib.Core.List.{List}
 use lib.ListN.{getD}
 use lib.Dec.{eqb}
 use lib.Ieee.{Float, binary64, add}
-use Rattle.ieee.specs.Numbers.{whole}
+use Rattle.ieee.specs.Numbers.{ofNat}
 use Rattle.modespec.specs.declared.ModeSpec.{ModeSpec}
 use Rattle.modespec.specs.Sizes.{lineSamples, windowLines}
 use Rattle.columns.specs.Columns.{listTo, columnPart, probeOf}
 
 -- y + x / 700: where column x of line y lies, in lines
 unfoldable pub linesAt : ℕ → ℕ → Float
-linesAt y x = add binary64 (whole y) (columnPart 700 x)
+linesAt y x = add binary64 (ofNat y) (columnPart 700 x)
 
 -- 1 where the flag so many lines into the window is set: that of number cut(lines × line samples / 4), as `probe_at` says.
 -- A window is the flags from its first to the last one taken; beyond it a flag reads 0.
@@ -28,18 +28,6 @@ hitAt samples window y x = hitBy samples window (linesAt y x)
 unfoldable pub hitsTo : Float → List ℕ → ℕ → ℕ → ℕ
 hitsTo samples window x zero = 0
 hitsTo samples window x (suc n) = hitsTo samples window x n + hitAt samples window n x
-
--- 1 where flag i of a window is set
-unfoldable pub bitAt : List ℕ → ℕ → ℕ
-bitAt window i = cond (eqb (getD window i 0) 0) 0 1
-
--- the numbers of the flags that the 700 columns of line y read
-unfoldable pub placesOf : Float → ℕ → List ℕ
-placesOf samples y = listTo (λ x. probeOf (linesAt y x) samples) 700
-
--- 700 counts, each with the flag at its place added
-unfoldable pub addedTo : List ℕ → List ℕ → List ℕ → List ℕ
-addedTo window places counts = listTo (λ x. getD counts x 0 + bitAt window (getD places x 0)) 700
 
 -- the counts of the 700 columns over n lines
 unfoldable pub foldTo : Float → List ℕ → ℕ → List ℕ

@@ -1,2 +1,3 @@
--- The fold of a window of flags. Definitions only.
+-- The fold of a window of flags (01-scope.md, "Start search"). Definitions only.
 pub mod Fold
+pub mod Steps

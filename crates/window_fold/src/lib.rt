@@ -5,7 +5,8 @@ ghost use Prim.Native.Nat.{ℕ, _+_, _≤_, _<_};
 ghost use lib.ListN.{length, getD};
 ghost use Rattle.limits.specs.Ranges.{allAtMost};
 ghost use Rattle.columns.specs.Columns.{listTo, columnPart};
-ghost use Rattle.window_fold.specs.Fold.{hitBy, foldTo, bitAt, placesOf, addedTo};
+ghost use Rattle.window_fold.specs.Fold.{hitBy, foldTo};
+ghost use Rattle.window_fold.specs.Steps.{bitAt, placesOf, addedTo};
 
 // Flags of a block in the search for a set one.
 const SCAN_FLAGS: usize = 512;

@@ -11,7 +11,8 @@ use lib.Ieee.{Float}
 use lib.Ieee.Casts.{toUnsigned-lt}
 use Rattle.first_line.specs.declared.Span.{Span}
 use lib.ListN.{getD}
-use Rattle.first_line.specs.Pulsed.{pulsedLine, spanOf, pulseAt, runWith, runTo, longestTo, runNeeded, enough}
+use Rattle.first_line.specs.Pulsed.{pulsedLine, spanOf, pulseAt, runTo, longestTo, runNeeded}
+use Rattle.first_line.specs.Steps.{runWith, enough}
 use Rattle.first_line.proofs.Lines.{Scanned, scanned-start, scanned-next, scanned-missing, scanned-found}
 use Rattle.first_line.proofs.Runs.{run-most, run-next, longest-next, run-none, longest-none}
 use Rattle.first_line.proofs.narrow_line.Statement.{statement}

@@ -34,7 +34,7 @@ returns-2 c =
 returns-3 : tie.Need-returns-3
 returns-3 c =
     let a = c .before .before .before .before in
-    finish-low (a .args .v) (a .args .i) (c .nearest-shift2 .result) (a .pre .1) (c .before .before .if2 .left) (c .before .if3 .taken) (c .nearest-shift2 .ensures)
+    finish-low (a .args .v) (a .args .i) (c .nearest-shift2 .result) (a .pre .1) (c .before .before .if2 .left) (c .nearest-shift2 .ensures)
 
 returns-4 : tie.Need-returns-4
 returns-4 c =

@@ -1,6 +1,6 @@
 -- `fma::rounded` meets its contract. Assumes nothing.
 use mathlib.Core.Path.{refl}
-use Rattle.fma.proofs.Placing.{pattern-fits, pattern-no-nan, zeros-fit, zeros-le, place-high, place-low, place-none}
+use Rattle.fma.proofs.Placing.{pattern-no-nan, zeros-fit, zeros-le, sign-no-nan, place-high, place-low, place-none}
 use borrow.Author.Needs.{needs}
 use Rattle.fma.proofs.rounded.Statement.{statement}
 use Rattle.fma.proofs.rounded.Tie as tie
@@ -47,6 +47,9 @@ add-result-2 c = search needs
 float-from-bits-result-2 : tie.Need-float-from-bits-result-2
 float-from-bits-result-2 c = pattern-no-nan (c .before .before .before .before .args .sign) _ _ (c .finish2 .result) (c .before .before .before .before .pre .0) (c .finish2 .ensures)
 
+float-from-bits-result-3 : tie.Need-float-from-bits-result-3
+float-from-bits-result-3 c = sign-no-nan (c .before .before .args .sign) (c .before .before .pre .0)
+
 returns : tie.Need-returns
 returns c = place-high (c .before .before .before .args .sign) (c .before .before .before .args .hi) (c .before .before .before .args .lo) (c .before .before .before .args .j) (c .before .before .before .pre .0) (c .before .before .before .fits .hi .fits) (c .before .before .before .fits .lo .fits) _ (c .before .top63 .result) (c .finish .result) (c .before .before .if1 .taken) refl (c .before .top63 .ensures) (c .finish .ensures)
 
@@ -74,6 +77,7 @@ rounded-spec =
     finish-requires-2
     add-result-2
     float-from-bits-result-2
+    float-from-bits-result-3
     returns
     returns-2
     returns-3)

@@ -1,6 +1,6 @@
 -- `line_parity::tone_at` meets its contract. Assumes nothing.
 use native.Mathlib.Omega.{arith}
-use lib.Ieee.{ofBits}
+use lib.Ieee.{ofBits, ofInt}
 use Rattle.line_parity.specs.Parity.{toneAt}
 use Rattle.ieee.proofs.Whole.{in-float}
 use borrow.Author.Needs.{needs}
@@ -17,7 +17,7 @@ round-requires : tie.Need-round-requires
 round-requires c κs = search needs
 
 returns : tie.Need-returns
-unfolding toneAt ofBits
+unfolding toneAt ofBits ofInt
 returns c = rw (c .round .ensures, c .before .before .before .separator-seconds .ensures)
 
 pub tone-at-spec : {M : Type 1} → statement M

@@ -6,7 +6,7 @@ use Prim.Native.Nat.{ℕ, max}
 use mathlib.Core.Bool.{false}
 use lib.IntN.{pos}
 use lib.Ieee.{Float, fin, binary64, mul, div, toUnsigned, ofBits}
-use Rattle.ieee.specs.Numbers.{whole}
+use Rattle.ieee.specs.Numbers.{ofNat}
 use Rattle.ieee.specs.Casts.{roundAway, clamp}
 use Rattle.modespec.specs.declared.ModeSpec.{ModeSpec}
 use Rattle.modespec.specs.Sizes.{pulseColumns}
@@ -15,9 +15,9 @@ use Rattle.modespec.proofs.pulse_columns.Tie as tie
 
 steps :
     (spec : ModeSpec) (n : ℕ) {big r : ℕ} {share most rounded held : Float} →
-    share ≡ whole n →
+    share ≡ ofNat n →
     big ≡ max n 1 →
-    most ≡ whole big →
+    most ≡ ofNat big →
     rounded ≡ roundAway binary64 (mul binary64 (div binary64 (spec .«sync_seconds») (spec .«line_seconds»)) share) →
     held ≡ clamp rounded (fin false 1 (pos 0)) most →
     r ≡ toUnsigned 64 held →

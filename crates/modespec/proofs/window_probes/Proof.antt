@@ -8,7 +8,7 @@ use lib.IntN.{pos}
 use lib.Ieee.{Float, fin, binary64, mul, div, ofBits}
 use mir.Val.{Fits}
 use mir.Syntax.{w64}
-use Rattle.ieee.specs.Numbers.{whole}
+use Rattle.ieee.specs.Numbers.{ofNat}
 use Rattle.ieee.specs.Casts.{ceilUnsigned}
 use Rattle.modespec.specs.declared.ModeSpec.{ModeSpec}
 use Rattle.modespec.specs.Sizes.{windowLines, lineSamples, windowProbes}
@@ -18,7 +18,7 @@ use Rattle.modespec.proofs.window_probes.Tie as tie
 steps :
     (spec : ModeSpec) {lines r : ℕ} {many samples : Float} →
     lines ≡ windowLines spec →
-    many ≡ whole lines →
+    many ≡ ofNat lines →
     samples ≡ lineSamples spec →
     r ≡ ceilUnsigned 64 (div binary64 (mul binary64 many samples) (fin false 1 (pos 2))) →
     r + 1 ≡ windowProbes spec

@@ -6,7 +6,8 @@ use native.Mathlib.Omega.{arith}
 use lib.ListN.{getD}
 use lib.Ieee.{Float, nan, binary64, add}
 use Rattle.columns.specs.Columns.{probeOf}
-use Rattle.sync.specs.Fold.{flagAt, Rising, Clear}
+use Rattle.sync.specs.Fold.{flagAt}
+use Rattle.sync.specs.Steps.{Rising, Clear}
 use Rattle.sync.proofs.block_is_clear.Statement.{statement}
 use Rattle.sync.proofs.block_is_clear.Tie as tie
 

@@ -4,7 +4,8 @@ use Prim.Native.Nat.{ℕ, _+_, _-_, _≤_, _<_}
 use native.Mathlib.Omega.{arith}
 use lib.ListN.{getD}
 use lib.Ieee.{nan}
-use Rattle.sync.specs.Fold.{flagAt, AddedIn}
+use Rattle.sync.specs.Fold.{flagAt}
+use Rattle.sync.specs.Steps.{AddedIn}
 use Rattle.sync.proofs.Folding.{part-none, part-zero, part-more}
 use Rattle.sync.proofs.fold_block.Statement.{statement}
 use Rattle.sync.proofs.fold_block.Tie as tie

@@ -4,7 +4,8 @@ use Prim.Native.Nat.{_+_, _*_, _-_, _≤_}
 use native.Mathlib.Omega.{arith}
 use lib.ListN.{getD}
 use lib.Ieee.{nan}
-use Rattle.sync.specs.Fold.{flagAt, Added}
+use Rattle.sync.specs.Fold.{flagAt}
+use Rattle.sync.specs.Steps.{Added}
 use Rattle.sync.proofs.Folding.{added-none, part-join}
 use Rattle.sync.proofs.fold_line.Statement.{statement}
 use Rattle.sync.proofs.fold_line.Tie as tie

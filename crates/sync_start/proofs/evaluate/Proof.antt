@@ -1,155 +1,81 @@
--- `sync_start::evaluate` meets its contract. Assumes nothing.
-use mathlib.Core.Path.{_≡_, _∙_}
+-- `sync_start::evaluate` meets its contract: it lends the flags taken and the samples known. Assumes nothing.
+use mathlib.Core.Path.{_≡_, sym, _∙_}
+use mathlib.Core.List.{List}
+use Prim.Native.Nat.{ℕ, _+_, _*_, min}
 use native.Mathlib.Omega.{arith}
-use Prim.Native.Nat.{_*_, _≤_}
-use lib.ListN.{length}
-use lib.Ieee.{ofBits, round}
-use Rattle.modespec.specs.Sizes.{windowLines}
-use Rattle.sync_start.specs.Evaluate.{countsOf}
-use Rattle.window_fold.proofs.Folding.{fold-length}
-use Rattle.columns.proofs.Lists.{tail-is}
-use Rattle.sync_start.proofs.Column.{sized-as}
-use Rattle.sync_start.proofs.Judging.{counts-are, weak, short, missed, located}
+use lib.Ieee.{Float}
+use lib.ListN.{length, take, length-take}
+use lib.Seq.{take-all, take-take, length-take-le}
 use borrow.Author.Needs.{needs}
+use Rattle.sync_start.specs.Evaluate.{takenAt, evaluationBy, evaluationOf}
 use Rattle.sync_start.proofs.evaluate.Statement.{statement}
 use Rattle.sync_start.proofs.evaluate.Tie as tie
 
-for-mode-requires : tie.Need-for-mode-requires
-for-mode-requires c κs = search needs
+mode-window-probes-requires : tie.Need-mode-window-probes-requires
+mode-window-probes-requires c κs = search needs
 
-window-lines-requires : tie.Need-window-lines-requires
-window-lines-requires c κs = search needs
+taken-is : (c : tie.After-mode-window-probes) → let g = c .before .before .before .args in 64 * g .j + c .mode-window-probes .result ≡ takenAt (g .mode) (g .j)
+taken-is c = rw (c .mode-window-probes .ensures)
 
-mul-first : tie.Need-mul-first
-mul-first c = search needs
+mul-taken : tie.Need-mul-taken
+mul-taken c = search needs
 
-sub-fold : tie.Need-sub-fold
-sub-fold c = search needs
+add-taken : tie.Need-add-taken
+add-taken c = let e = taken-is c in search needs
 
-part-fold-start : tie.Need-part-fold-start
-part-fold-start c = search needs
+add-min : tie.Need-add-min
+add-min c = let e = taken-is c in search needs
 
-part-fold-end : tie.Need-part-fold-end
-part-fold-end c = search needs
+mul-min : tie.Need-mul-min
+mul-min c = let e = taken-is c in search needs
 
-line-samples-requires : tie.Need-line-samples-requires
-line-samples-requires c κs = search needs
+min-requires : tie.Need-min-requires
+min-requires c κs = search needs
 
-few : (c : tie.After-window-lines) → c .window-lines .result ≤ 65536
-few c =
-    let z : windowLines (c .before .for-mode .result) ≤ 64 = sized-as _ _ (c .before .for-mode .ensures) .lines in
-    rw (c .window-lines .ensures) (omega arith)
+slice-aggregate-evaluate-by : tie.Need-slice-aggregate-evaluate-by
+slice-aggregate-evaluate-by c =
+    let e = taken-is (c .before .before) in
+    sym (length-take-le _ (c .before .before .before .before .before .args .flags .now) (omega arith))
 
-counted : (c : tie.After-fold)
-    → let g = c .before .before .before .before .before .before .before .args in
-    c .fold .result ≡ countsOf (g .mode) (g .j) (g .flags .now)
-counted c =
-    let w = c .before .before .before in
-    let g = w .before .before .before .before .args in
-    counts-are (g .mode) (g .j) (g .flags .now) _ _ _ (w .before .for-mode .ensures) (w .window-lines .ensures) _ _ (c .before .line-samples .ensures) (tail-is (g .flags .now) (64 * g .j)) (c .fold .ensures)
+slice-aggregate-evaluate-by-2 : tie.Need-slice-aggregate-evaluate-by-2
+slice-aggregate-evaluate-by-2 c =
+    let m = c .before .before .min .ensures in
+    sym (length-take-le _ (c .before .before .before .before .before .before .args .samples .now) (omega arith))
 
-fold-requires : tie.Need-fold-requires
-fold-requires c κs = few (c .before .before)
+evaluate-by-requires : tie.Need-evaluate-by-requires
+evaluate-by-requires c κs =
+    let e = taken-is (c .before .before .before) in
+    rw length-take (omega arith, omega arith, omega arith)
 
-slice-aggregate-quality : tie.Need-slice-aggregate-quality
-slice-aggregate-quality c = search needs
+-- no more samples than there are
+all-heard : {A : Type 0} (n : ℕ) (l : List A) → take (min n (length l)) l ≡ take n l
+all-heard n l = sym (take-take (min n (length l)) n l (omega arith)) ∙ take-all (min n (length l)) (take n l) (rw length-take (omega arith))
 
-quality-requires : tie.Need-quality-requires
-quality-requires c κs =
-    let f = c .before in
-    let w = f .before .before .before in
-    let z = sized-as _ _ (w .before .for-mode .ensures) in
-    let n : length (f .fold .result) ≡ 700 = rw (f .fold .ensures) (fold-length _ _ _) in
-    let m : length (f .fold .result) ≤ 65536 = omega arith in
-    (m, few w, λ h. rw n (z .some, z .most))
-
-nowhere-requires : tie.Need-nowhere-requires
-nowhere-requires c κs = search needs
+lent : (mode j : ℕ) (flags : List ℕ) (samples : List Float) (streak taken known : ℕ) → taken ≡ takenAt mode j → known ≡ min (4 * (taken + 1)) (length samples)
+    → evaluationBy mode j (take taken flags) (take known samples) streak ≡ evaluationOf mode j flags samples streak
+unfolding evaluationOf
+lent mode j flags samples streak taken known e k = rw (k, all-heard (4 * (taken + 1)) samples, e)
 
 returns : tie.Need-returns
-unfolding ofBits round
 returns c =
-    let q = c .before .before in
-    let f = q .before .before in
-    let w = f .before .before .before in
-    let g = w .before .before .before .before .args in
-    c .nowhere .ensures ∙ weak (g .mode) (g .j) (g .flags .now) _ _ _ (w .before .for-mode .ensures) (w .window-lines .ensures) _ _ _ (counted f) (q .quality .ensures) (c .before .if1 .taken)
-
-add-next : tie.Need-add-next
-add-next c = search needs
-
-nowhere-requires-2 : tie.Need-nowhere-requires-2
-nowhere-requires-2 c κs = search needs
-
-returns-2 : tie.Need-returns-2
-unfolding ofBits round
-returns-2 c =
-    let q = c .before .before .before in
-    let f = q .before .before in
-    let w = f .before .before .before in
-    let g = w .before .before .before .before .args in
-    c .nowhere2 .ensures ∙ short (g .mode) (g .j) (g .flags .now) _ _ _ (w .before .for-mode .ensures) (w .window-lines .ensures) _ _ _ (counted f) (q .quality .ensures) (c .before .before .if1 .left) (c .before .if2 .taken)
-
-locate-requires : tie.Need-locate-requires
-locate-requires c κs = (omega arith, omega arith, sized-as _ _ (c .before .before .before .before .before .before .before .before .before .for-mode .ensures))
-
-enum-told : tie.Need-enum-told
-enum-told c = search needs
-
-nowhere-requires-3 : tie.Need-nowhere-requires-3
-nowhere-requires-3 c κs = search needs
-
-enum-known-start : tie.Need-enum-known-start
-enum-known-start c = search needs
-
-found-requires : tie.Need-found-requires
-found-requires c κs = search needs
-
-returns-3 : tie.Need-returns-3
-unfolding ofBits round
-returns-3 c =
-    let l = c .before .before .before in
-    let e = l .before .before in
-    let q = e .before .before in
-    let f = q .before .before in
-    let w = f .before .before .before in
-    let g = w .before .before .before .before .args in
-    c .nowhere3 .ensures ∙ missed (g .mode) (g .j) (g .flags .now) _ _ _ (w .before .for-mode .ensures) (w .window-lines .ensures) _ _ _ (counted f) (q .quality .ensures) (l .locate .result) (e .before .if1 .left) (e .if2 .left) (l .locate .ensures) (c .before .enum-told .given .1)
-
-returns-4 : tie.Need-returns-4
-unfolding ofBits round
-returns-4 c =
-    let l = c .before .before .before .before in
-    let e = l .before .before in
-    let q = e .before .before in
-    let f = q .before .before in
-    let w = f .before .before .before in
-    let g = w .before .before .before .before .args in
-    c .found .ensures ∙ located (g .mode) (g .j) (g .flags .now) _ _ _ (w .before .for-mode .ensures) (w .window-lines .ensures) _ _ _ (counted f) (q .quality .ensures) (l .locate .result) (e .before .if1 .left) (e .if2 .left) (l .locate .ensures) _ (c .before .before .start .given .1)
+    let b = c .before .before .before .before in
+    let g = b .before .before .before .args in
+    let known = c .before .before .before .min in
+    let taken : ℕ = 64 * g .j + b .mode-window-probes .result in
+    let made : c .evaluate-by .result ≡ evaluationBy (g .mode) (g .j) (take taken (g .flags .now)) (take (known .result) (g .samples .now)) (g .streak) = c .evaluate-by .ensures in
+    made ∙ lent (g .mode) (g .j) (g .flags .now) (g .samples .now) (g .streak) taken (known .result) (taken-is b) (known .ensures)
 
 pub evaluate-spec : {M : Type 1} → statement M
 evaluate-spec =
     tie.close
     (tie.spec
-    for-mode-requires
-    window-lines-requires
-    mul-first
-    sub-fold
-    part-fold-start
-    part-fold-end
-    line-samples-requires
-    fold-requires
-    slice-aggregate-quality
-    quality-requires
-    nowhere-requires
-    returns
-    add-next
-    nowhere-requires-2
-    returns-2
-    locate-requires
-    enum-told
-    nowhere-requires-3
-    enum-known-start
-    found-requires
-    returns-3
-    returns-4)
+    mode-window-probes-requires
+    mul-taken
+    add-taken
+    add-min
+    mul-min
+    min-requires
+    slice-aggregate-evaluate-by
+    slice-aggregate-evaluate-by-2
+    evaluate-by-requires
+    returns)

@@ -6,7 +6,8 @@ use lib.ListN.{length}
 use native.Mathlib.Nat.{le-of-lt}
 use Rattle.modespec.specs.declared.ModeSpec.{ModeSpec}
 use Rattle.modespec.specs.Sizes.{windowLines}
-use Rattle.sync_start.specs.Evaluate.{locateIn, Sized}
+use Rattle.sync_start.specs.Evaluate.{locateIn}
+use Rattle.sync_start.specs.Steps.{Sized}
 use Rattle.sync_start.proofs.Column.{column-within}
 use borrow.Author.Needs.{needs}
 use Rattle.sync_start.proofs.locate.Statement.{statement}

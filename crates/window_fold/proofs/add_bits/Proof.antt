@@ -5,7 +5,7 @@ use mathlib.Core.List.{List}
 use Prim.Native.Nat.{ℕ, _≤_, _<_, _+_, _-_}
 use native.Mathlib.Omega.{arith}
 use lib.ListN.{length, getD, set}
-use Rattle.window_fold.specs.Fold.{bitAt, addedTo}
+use Rattle.window_fold.specs.Steps.{bitAt, addedTo}
 use Rattle.columns.proofs.Lists.{Mixed, mixed-none, mixed-at, mixed-more, mixed-all}
 use Rattle.window_fold.proofs.Folding.{bit-small, added-length, added-at}
 use Rattle.window_fold.proofs.add_bits.Statement.{statement}

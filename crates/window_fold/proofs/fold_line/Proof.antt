@@ -6,7 +6,8 @@ use native.Mathlib.Omega.{arith}
 use borrow.Author.Needs.{needs}
 use lib.Ieee.{Float}
 use lib.ListN.{length, getD}
-use Rattle.window_fold.specs.Fold.{foldTo, placesOf, addedTo}
+use Rattle.window_fold.specs.Fold.{foldTo}
+use Rattle.window_fold.specs.Steps.{placesOf, addedTo}
 use Rattle.window_fold.proofs.Folding.{hits-most, fold-length, fold-at, places-length, fold-added}
 use Rattle.window_fold.proofs.fold_line.Statement.{statement}
 use Rattle.window_fold.proofs.fold_line.Tie as tie

@@ -5,9 +5,10 @@ use Prim.Native.Nat.{ℕ, _≤_, _<_, _-_}
 use native.Mathlib.Omega.{arith}
 use lib.Ieee.{Float, add, binary64}
 use lib.ListN.{length, getD, take, length-set}
-use Rattle.ieee.specs.Numbers.{whole}
+use Rattle.ieee.specs.Numbers.{ofNat}
 use Rattle.columns.specs.Columns.{columnPart, probeOf, listTo}
-use Rattle.window_fold.specs.Fold.{linesAt, placesOf}
+use Rattle.window_fold.specs.Fold.{linesAt}
+use Rattle.window_fold.specs.Steps.{placesOf}
 use Rattle.ieee.proofs.Whole.{in-float}
 use Rattle.columns.proofs.Lists.{getD-list, write-next, all-written}
 use Rattle.window_fold.proofs.line_places.Statement.{statement}
@@ -23,7 +24,7 @@ abbrev μ-loop : tie.MeasureT-loop
 μ-loop parts samples y places₀ line x₀ places x = 700 - x
 
 -- what the code adds up to a column's place is `linesAt`
-lines-are : (y x : ℕ) (parts : List Float) (d : Float) → x < 700 → parts ≡ listTo (columnPart 700) 700 → add binary64 (whole y) (getD parts x d) ≡ linesAt y x
+lines-are : (y x : ℕ) (parts : List Float) (d : Float) → x < 700 → parts ≡ listTo (columnPart 700) 700 → add binary64 (ofNat y) (getD parts x d) ≡ linesAt y x
 unfolding linesAt
 lines-are y x parts d h e = rw (e, getD-list (columnPart 700) 700 x d h)
 

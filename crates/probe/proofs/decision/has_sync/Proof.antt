@@ -1,6 +1,6 @@
 -- `probe::decision::has_sync` meets its contract. The callees' values are put together.
 -- Assumes nothing.
-use lib.Ieee.{ofBits}
+use lib.Ieee.{ofBits, ofInt}
 use Rattle.probe.proofs.Powers.{sync-is}
 use borrow.Author.Needs.{needs}
 use Rattle.probe.proofs.decision.has_sync.Statement.{statement}
@@ -22,7 +22,7 @@ sync-power-requires : tie.Need-sync-power-requires
 sync-power-requires c κs = search needs
 
 returns : tie.Need-returns
-unfolding ofBits
+unfolding ofBits ofInt
 returns c =
     let b = c .before in
     let m = b .before in

@@ -1,7 +1,8 @@
 -- `probe::decision::sync_power` meets its contract. The weights are 0.5, 1.0 and 0.5 by computation.
 -- Assumes nothing.
 use borrow.Author.Needs.{needs}
-use lib.Ieee.{ofBits}
+use lib.Ieee.{ofBits, ofInt}
+use Rattle.ieee.specs.Numbers.{decimal}
 use Rattle.probe.proofs.Powers.{triangle-is}
 use Rattle.probe.proofs.decision.sync_power.Statement.{statement}
 use Rattle.probe.proofs.decision.sync_power.Tie as tie
@@ -22,7 +23,7 @@ bin-power-requires-3 : tie.Need-bin-power-requires-3
 bin-power-requires-3 c κs = search needs
 
 returns : tie.Need-returns
-unfolding ofBits
+unfolding ofBits ofInt decimal
 returns c =
     triangle-is _ _ (c .before .before .bin-power .result) (c .before .bin-power2 .result) (c .bin-power3 .result) (c .before .before .bin-power .ensures)
     (c .before .bin-power2 .ensures)

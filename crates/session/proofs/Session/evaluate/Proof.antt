@@ -68,8 +68,8 @@ evaluate-requires : tie.Need-evaluate-requires
 evaluate-requires c κs =
     let s = c .before .before .before .before .before .before .before .before .before .before .args .self in
     let w = c .before .before .before .before .before .window .ensures .is in
-    evaluate-room (s .mode) (s .taken) (c .before .before .before .before .before .window .result) (c .before .before .known .result) (s .streak) (c .before .before .before .before .before .before .before .before .before .before .args .store .now) (c .before .before .before .before .before .before .before .before .before .before .args .audio .now) (c .before .before .before .before .before .before .before .before .before .before .pre .0) w
-    (c .before .before .before .before .if1 .left) (c .before .before .before .if2 .left) (c .before .before .before .before .before .before .before .before .before .before .pre .1 .0 .0) (c .before .before .before .before .before .before .before .before .before .before .pre .1 .0 .1) (c .before .before .known .ensures) (let a = c .before .before .before .before .before .before .before .before .before .before .pre .1 .1 .1 .0 in let b = c .before .before .before .before .before .before .before .before .before .before .pre .1 .1 .1 .1 in omega arith)
+    evaluate-room (s .mode) (s .taken) (c .before .before .before .before .before .window .result) (s .streak) (c .before .before .before .before .before .before .before .before .before .before .args .store .now) w
+    (c .before .before .before .before .if1 .left) (c .before .before .before .if2 .left) (c .before .before .before .before .before .before .before .before .before .before .pre .1 .0 .0) (c .before .before .before .before .before .before .before .before .before .before .pre .1 .0 .1) (let a = c .before .before .before .before .before .before .before .before .before .before .pre .1 .1 .1 .0 in let b = c .before .before .before .before .before .before .before .before .before .before .pre .1 .1 .1 .1 in omega arith)
 
 found-requires : tie.Need-found-requires
 found-requires c κs = search needs

@@ -23,8 +23,9 @@ sane-requires c κs = search needs
 returns-2 : tie.Need-returns-2
 returns-2 c =
     let x = c .before .before .before .before .before .before .before .before .before .before .args in
-    let live : endedPhase (x .self .phase) ≡ false = code-live (x .self) (x .store .now) (x .audio .now) (x .img .now) (x .votes .now) (x .flags .now) (x .samples .now) (sym (c .before .before .before .feed-code .ensures (x .self .anchor)) ∙ c .before .before .if1 .left) in
-    feed-strange (x .self) (x .store .now) (x .audio .now) (x .img .now) (x .votes .now) (x .flags .now) (x .samples .now) live (c .before .sane .ensures .no (not-true (c .before .sane .result) (c .if2 .taken)) live)
+    let code = (sym (c .before .before .before .feed-code .ensures (x .self .anchor)) ∙ c .before .before .if1 .left) in
+    let live : endedPhase (x .self .phase) ≡ false = code-live (x .self) (x .store .now) (x .audio .now) (x .img .now) (x .votes .now) (x .flags .now) (x .samples .now) code in
+    feed-strange (x .self) (x .store .now) (x .audio .now) (x .img .now) (x .votes .now) (x .flags .now) (x .samples .now) code live (c .before .sane .ensures .no (not-true (c .before .sane .result) (c .if2 .taken)) live)
 
 run-requires : tie.Need-run-requires
 run-requires c κs =

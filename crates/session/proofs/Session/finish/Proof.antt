@@ -3,7 +3,7 @@
 -- Assumes nothing.
 use mathlib.Core.Path.{sym, _∙_, ap, subst⁻¹}
 use lib.ListN.{take, drop}
-use lib.Ieee.{ofBits}
+use lib.Ieee.{ofBits, ofInt}
 use Prim.Native.Nat.{_-_}
 use Rattle.modespec.specs.Sizes.{workingRate}
 use Rattle.modespec.specs.declared.ModeSpec.{ModeSpec}
@@ -61,7 +61,7 @@ same-length-2 : tie.Need-same-length-2
 same-length-2 c = search needs
 
 returns-3 : tie.Need-returns-3
-unfolding ofBits
+unfolding ofBits ofInt
 returns-3 c =
     let found = c .before .before .before .before .before .find-sync-in in
     let a = c .before .before .before .before .before .before .before .before .before in
