@@ -18,8 +18,30 @@
  *    6 list of a wrong length
  *
  * All memory is the caller's. The library keeps no pointer and allocates
- * nothing. A pointer may be NULL only where its length is 0. Buffers that are
- * written must not overlap any other argument.
+ * nothing. A length is the true number of elements behind its pointer, and
+ * times the size of one it is below 2^63. A pointer is aligned for its type,
+ * and may be NULL only where its length is 0. Buffers that are written must not
+ * overlap any other argument.
+ *
+ * Float environment. A call must be made with rounding to nearest, without
+ * flush-to-zero (FTZ), without denormals-are-zero (DAZ) and with all float
+ * exceptions masked: the calls round, and an exception that is not masked
+ * traps. The answers are those of the scope document only then, and the proofs
+ * presuppose it, so that otherwise nothing is promised. A process starts so.
+ * But linking with -ffast-math, -Ofast or -funsafe-math-optimizations changes
+ * it for the whole process: gcc and clang then add crtfastmath.o, which sets
+ * FTZ and DAZ before main, and new threads inherit them. A single shared
+ * library that was linked so is enough (older compilers: gcc before 13).
+ * fesetround, feenableexcept and _mm_setcsr change it for their thread. A host
+ * that does not know puts funnelivy_float_enter and funnelivy_float_leave,
+ * below, around its calls.
+ *
+ * Stack. FUNNELIVY_STACK_BYTES of free stack are enough for every call, and
+ * FUNNELIVY_SMALL_STACK_BYTES for every call but feed and find_sync. Measured,
+ * with the arguments: feed 38,000 bytes, find_sync 20,500, the others below
+ * 500, and 3,200 more where the dynamic linker binds memset in the first call.
+ * Large frames are touched page by page from above, so that a guard page is not
+ * jumped over. What signal handlers take comes on top.
  *
  * Modes: 0 PD 120, 1 PD 180, 2 PD 240, 3 Robot 24, 4 Robot 36, 5 Robot 72,
  * 6 Robot 24 B/W, 7 Robot 12 B/W, 8 Robot 8 B/W, 9 Scottie 1, 10 Scottie 2,
@@ -31,6 +53,9 @@
 
 #include <stddef.h>
 #include <stdint.h>
+#ifdef __x86_64__
+#include <xmmintrin.h>
+#endif
 
 #ifdef __cplusplus
 extern "C" {
@@ -41,11 +66,20 @@ extern "C" {
 #define FUNNELIVY_VOTE_CELLS 144000
 /* Longest flag store and flag list. */
 #define FUNNELIVY_MOST_FLAGS 16777216
+/* Free stack that is enough for each call, and for each but feed and find_sync. */
+#define FUNNELIVY_STACK_BYTES 65536
+#define FUNNELIVY_SMALL_STACK_BYTES 8192
 
 /*
  * A session, to be kept by the host and handed back to the next call. The
- * fields may be read; a record that no call returned is answered safely, with
- * an answer that is free beyond that.
+ * fields may be read. A record that no call returned is refused where a number
+ * applies, as any; else its answer is free, within the memory that was lent. A
+ * refused call returns a record of zeros, which is no session: go on with the
+ * record that was handed to it.
+ *
+ * In this and every other record the bytes between and behind the fields are
+ * not written and may hold anything: compare records by their fields, not by
+ * memcmp.
  */
 typedef struct {
     uint64_t anchor;       /* number of the session's first sample */
@@ -173,7 +207,8 @@ funnelivy_opened funnelivy_open(uint8_t mode, uint64_t anchor, const uint8_t *fl
 /* Feeds flags, and four samples for each: flag p comes with samples 4p + 4 to
  * 4p + 7. What is taken is written into the stores behind what is there; a
  * session that ends leaves the rest of the piece. The stores are those that
- * open was given, and nobody else writes them in between. The work memory may
+ * open was given, and nobody else writes them in between; in modes other than
+ * Robot 24 and 36 the sample store may be any, or none. The work memory may
  * hold anything; it comes back as 0 in its extent where a report was made, and
  * else unchanged. Refuses 5, 6, 7, 8, 10. */
 funnelivy_fed funnelivy_feed(funnelivy_session session, uint8_t *flag_store, size_t flag_store_len,
@@ -184,6 +219,44 @@ funnelivy_fed funnelivy_feed(funnelivy_session session, uint8_t *flag_store, siz
 
 /* The end of a session. Refuses 11. */
 funnelivy_reading funnelivy_read(funnelivy_session session);
+
+/* The library is for x86-64 alone; elsewhere these are left out and the rest can
+ * still be read. It uses no x87 register, so that MXCSR is the whole of its float
+ * environment. */
+#ifdef __x86_64__
+
+/* MXCSR's control bits, which are DAZ (6), the exception masks (7 to 12), rounding
+ * (13, 14) and FTZ (15), and their default. */
+#define FUNNELIVY_MXCSR_CONTROL 0xffc0u
+#define FUNNELIVY_MXCSR_DEFAULT 0x1f80u
+
+/* 1 if the thread's float environment is the one that the calls need, else 0. */
+static inline int funnelivy_float_default(void) {
+    return (_mm_getcsr() & FUNNELIVY_MXCSR_CONTROL) == FUNNELIVY_MXCSR_DEFAULT;
+}
+
+/* Sets the float environment that the calls need, for this thread, and gives what
+ * there was, for funnelivy_float_leave:
+ *
+ *     unsigned saved = funnelivy_float_enter();
+ *     fed = funnelivy_feed(...);
+ *     funnelivy_float_leave(saved);
+ *
+ * The host's own float arithmetic belongs outside: between the two it may be done
+ * in either environment. */
+static inline unsigned funnelivy_float_enter(void) {
+    unsigned saved = _mm_getcsr();
+    _mm_setcsr(FUNNELIVY_MXCSR_DEFAULT);
+    return saved;
+}
+
+/* Sets the environment that enter found, exception flags included: those that the
+ * calls raised are gone. */
+static inline void funnelivy_float_leave(unsigned saved) {
+    _mm_setcsr(saved);
+}
+
+#endif
 
 #ifdef __cplusplus
 }

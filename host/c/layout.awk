@@ -1,6 +1,6 @@
 # Writes one check for each field of the #[repr(C)] structs in the files given
 # (the Rattle sources and the Rust declarations of them): offset, size and kind as
-# the rules of repr(C) give them. test.c includes what is written.
+# the rules of repr(C) give them. layout.c includes what is written.
 
 function snake(name) {
     sub(/^(Funnelivy|Raw)/, "", name)

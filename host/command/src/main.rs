@@ -83,7 +83,7 @@ enum Command {
         #[arg(long, value_parser = mode, default_value = "robot36")]
         mode: u8,
         /// The sender's sampling rate as heard here, in Hz
-        #[arg(long, default_value_t = 11_028.0)]
+        #[arg(long, value_parser = rate, default_value_t = 11_028.0)]
         rate: f64,
         /// Noise as a part of full scale
         #[arg(long, default_value_t = 0.05)]
@@ -103,6 +103,14 @@ fn mode(name: &str) -> Result<u8, String> {
             MODE_NAMES.join(", ")
         )
     })
+}
+
+/// The rates that `find_sync` takes.
+fn rate(hz: &str) -> Result<f64, String> {
+    hz.parse()
+        .ok()
+        .filter(|hz| (8_000.0..=48_000.0).contains(hz))
+        .ok_or_else(|| "a rate is a number from 8000 to 48000".to_owned())
 }
 
 /// What keeps the command from doing its work, in words.

@@ -117,6 +117,21 @@ fn samples(data: &[u8], layout: &Layout) -> Result<Vec<f32>, WavError> {
     })
 }
 
+/// The bytes of a data chunk of this size whose first byte is number `from`.
+///
+/// A recorder fills the sizes in when it stops. Stopped hard it leaves the data's
+/// as 0, 0xffffffff or another that is past the end, and then the sound goes to
+/// the end of the file. But where the file's own size is filled in, a size of 0
+/// means no sound: what follows it is another chunk, as a LIST with a title.
+fn data_bytes(bytes: &[u8], from: usize, size: usize) -> &[u8] {
+    let body = &bytes[from..];
+    let filled_in = u32_at(bytes, 4) as usize + 8 == bytes.len();
+    if size == 0 && !filled_in {
+        return body;
+    }
+    &body[..size.min(body.len())]
+}
+
 /// The samples of a mono WAV file at the working rate, each held to -1..1.
 ///
 /// # Errors
@@ -132,11 +147,9 @@ pub fn read_wav(mut from: impl Read) -> Result<Vec<f32>, WavError> {
     while at + 8 <= bytes.len() {
         let name = &bytes[at..at + 4];
         let size = u32_at(&bytes, at + 4) as usize;
-        let body = &bytes[at + 8..];
-        // a recorder that was stopped hard leaves a size of 0 or past the end
-        let chunk = &body[..size.min(body.len())];
         if name == b"fmt " {
-            format = Some(layout(chunk)?);
+            let body = &bytes[at + 8..];
+            format = Some(layout(&body[..size.min(body.len())])?);
         } else if name == b"data" {
             let format = format.ok_or(WavError::Malformed("its format chunk is missing"))?;
             if format.channels != 1 {
@@ -145,7 +158,7 @@ pub fn read_wav(mut from: impl Read) -> Result<Vec<f32>, WavError> {
             if format.rate != WORKING_SAMPLE_RATE_HZ {
                 return Err(WavError::Rate(format.rate));
             }
-            let mut sound = samples(chunk, &format)?;
+            let mut sound = samples(data_bytes(&bytes, at + 8, size), &format)?;
             for s in &mut sound {
                 *s = if s.is_finite() {
                     s.clamp(-1.0, 1.0)
@@ -167,7 +180,9 @@ pub fn read_wav(mut from: impl Read) -> Result<Vec<f32>, WavError> {
 #[allow(clippy::cast_possible_truncation)]
 pub fn write_wav(mut to: impl Write, sound: &[f32]) -> io::Result<()> {
     let data = u32::try_from(sound.len() * 2)
-        .map_err(|_| io::Error::new(io::ErrorKind::InvalidInput, "too long for a WAV file"))?;
+        .ok()
+        .filter(|data| *data <= u32::MAX - 36)
+        .ok_or_else(|| io::Error::new(io::ErrorKind::InvalidInput, "too long for a WAV file"))?;
     let mut bytes = Vec::with_capacity(44 + sound.len() * 2);
     bytes.extend_from_slice(b"RIFF");
     bytes.extend_from_slice(&(36 + data).to_le_bytes());
@@ -238,5 +253,43 @@ mod tests {
         assert_eq!(read(FLOAT, 32, &f32::NAN.to_le_bytes()).unwrap(), [0.0]);
         assert!(read(2, 4, &[0]).is_err());
         assert!(read_wav(&b"no"[..]).is_err());
+    }
+
+    /// Two samples, 0.5 and -0.5, and these bytes after them, under these sizes
+    /// of file and data.
+    fn stopped(file_size: u32, data_size: u32, after: &[u8]) -> Vec<u8> {
+        let mut b = file(PCM, 1, 11_025, 16, &[0, 0x40, 0, 0xc0]);
+        b.extend_from_slice(after);
+        b[4..8].copy_from_slice(&file_size.to_le_bytes());
+        b[40..44].copy_from_slice(&data_size.to_le_bytes());
+        b
+    }
+
+    #[test]
+    fn sizes_that_were_not_filled_in_mean_to_the_end_of_the_file() {
+        for file_size in [0, 36, u32::MAX] {
+            for data_size in [0, u32::MAX, 5, 1 << 31] {
+                let sound = read_wav(&stopped(file_size, data_size, &[])[..]).unwrap();
+                assert_eq!(sound, [0.5, -0.5], "{file_size} {data_size}");
+                // half of a sample that was not written out
+                let sound = read_wav(&stopped(file_size, data_size, &[0])[..]).unwrap();
+                assert_eq!(sound, [0.5, -0.5], "{file_size} {data_size}");
+            }
+            let sound = read_wav(&stopped(file_size, 2, &[])[..]).unwrap();
+            assert_eq!(sound, [0.5]);
+        }
+    }
+
+    #[test]
+    fn an_empty_data_chunk_of_a_finished_file_is_empty() {
+        let mut whole = file(PCM, 1, 11_025, 16, &[]);
+        whole[4..8].copy_from_slice(&36_u32.to_le_bytes());
+        assert_eq!(read_wav(&whole[..]).unwrap(), [0.0; 0]);
+        whole.extend_from_slice(b"LIST\x04\0\0\0INFO");
+        whole[4..8].copy_from_slice(&48_u32.to_le_bytes());
+        assert_eq!(read_wav(&whole[..]).unwrap(), [0.0; 0]);
+        // unfinished, and nothing after the header
+        let header = file(PCM, 1, 11_025, 16, &[]);
+        assert_eq!(read_wav(&header[..]).unwrap(), [0.0; 0]);
     }
 }

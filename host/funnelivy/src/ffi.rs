@@ -1,8 +1,9 @@
 //! The C interface of the static library, as include/funnelivy.h has it, for
-//! hosts that keep memory and records themselves.
+//! hosts that keep memory and records themselves. A call is made in the caller's
+//! float environment: [`crate::float_env::with_default`] sets the right one.
 //!
-//! host/c/run compares these declarations with the header and with the Rattle
-//! source; the tests of this package make every call.
+//! host/c/run compares the records and the functions declared here with the
+//! header and with the Rattle source; the tests of this package make every call.
 
 #[repr(C)]
 #[derive(Clone, Copy, Debug, PartialEq)]

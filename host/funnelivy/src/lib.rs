@@ -2,16 +2,23 @@
 //!
 //! [`Session`] owns the memory that a session is lent. The functions beside it
 //! are the single calls. A call that does not meet its conditions answers a
-//! [`Refusal`] and changes nothing.
+//! [`Refusal`] and changes nothing. Every call is made in the default float
+//! environment, whatever the caller's is, and leaves the caller's as it was.
 
+#![deny(unsafe_code)]
+
+#[allow(unsafe_code)]
+mod calls;
 pub mod ffi;
+#[allow(unsafe_code)]
+pub mod float_env;
 pub mod machine;
 mod refusal;
 mod session;
 
 pub use recording::{End, Report};
 pub use refusal::Refusal;
-pub use session::{has_parity_tone, sample_store_length, Reading, Session, Work};
+pub use session::{has_parity_tone, sample_store_length, Reading, Session, Work, MOST_FLAGS};
 
 use refusal::check;
 
@@ -34,8 +41,7 @@ pub struct Sizes {
 /// # Errors
 /// Refusal 1.
 pub fn sizes(mode: u8) -> Result<Sizes, Refusal> {
-    // SAFETY: numbers only.
-    let r = unsafe { ffi::funnelivy_sizes(mode) };
+    let r = calls::sizes(mode);
     check(r.refusal)?;
     Ok(Sizes {
         window: r.window,
@@ -48,8 +54,7 @@ pub fn sizes(mode: u8) -> Result<Sizes, Refusal> {
 /// # Errors
 /// Refusals 1 and 9.
 pub fn sync_pulse_columns(mode: u8, n: u64) -> Result<u64, Refusal> {
-    // SAFETY: numbers only.
-    let r = unsafe { ffi::funnelivy_columns(mode, n) };
+    let r = calls::columns(mode, n);
     check(r.refusal)?;
     Ok(r.columns)
 }
@@ -59,8 +64,7 @@ pub fn sync_pulse_columns(mode: u8, n: u64) -> Result<u64, Refusal> {
 /// # Errors
 /// Refusal 9.
 pub fn best_pulse_window(counts: &[u32], width: u64) -> Result<BestWindow, Refusal> {
-    // SAFETY: the pointer and length are those of a slice that outlives the call.
-    let r = unsafe { ffi::funnelivy_window(counts.as_ptr(), counts.len(), width) };
+    let r = calls::window(counts, width);
     check(r.refusal)?;
     Ok(BestWindow {
         start: r.start,
@@ -73,8 +77,7 @@ pub fn best_pulse_window(counts: &[u32], width: u64) -> Result<BestWindow, Refus
 /// # Errors
 /// Refusals 1 and 9.
 pub fn sync_quality(counts: &[u32], mode: u8, lines: u64) -> Result<f32, Refusal> {
-    // SAFETY: the pointer and length are those of a slice that outlives the call.
-    let r = unsafe { ffi::funnelivy_quality(counts.as_ptr(), counts.len(), mode, lines) };
+    let r = calls::quality(counts, mode, lines);
     check(r.refusal)?;
     Ok(r.quality)
 }
@@ -84,8 +87,7 @@ pub fn sync_quality(counts: &[u32], mode: u8, lines: u64) -> Result<f32, Refusal
 /// # Errors
 /// Refusal 9.
 pub fn falling_edge(counts: &[u32]) -> Result<u64, Refusal> {
-    // SAFETY: the pointer and length are those of a slice that outlives the call.
-    let r = unsafe { ffi::funnelivy_edge(counts.as_ptr(), counts.len()) };
+    let r = calls::edge(counts);
     check(r.refusal)?;
     Ok(r.columns)
 }
@@ -101,20 +103,7 @@ pub fn find_sync(
     img: &mut [u8],
     votes: &mut [u16],
 ) -> Result<Report, Refusal> {
-    // SAFETY: each pointer and length is that of a slice that outlives the call,
-    // and the two that are written are borrowed mutably.
-    let r = unsafe {
-        ffi::funnelivy_find_sync(
-            flags.as_ptr(),
-            flags.len(),
-            rate,
-            mode,
-            img.as_mut_ptr(),
-            img.len(),
-            votes.as_mut_ptr(),
-            votes.len(),
-        )
-    };
+    let r = calls::find_sync(flags, rate, mode, img, votes);
     check(r.refusal)?;
     Ok(Report {
         rate: r.rate,
@@ -129,18 +118,7 @@ pub fn find_sync(
 /// # Errors
 /// Refusals 4, 5 and 8.
 pub fn sync_window(sound: &[f32], centre: u64, buffer: &mut [f32]) -> Result<(), Refusal> {
-    // SAFETY: each pointer and length is that of a slice that outlives the call,
-    // and the one that is written is borrowed mutably.
-    let refusal = unsafe {
-        ffi::funnelivy_sync_window(
-            sound.as_ptr(),
-            sound.len(),
-            centre,
-            buffer.as_mut_ptr(),
-            buffer.len(),
-        )
-    };
-    check(refusal)
+    check(calls::sync_window(sound, centre, buffer))
 }
 
 /// Whether 129 transformed pairs show the sync tone.
@@ -148,8 +126,7 @@ pub fn sync_window(sound: &[f32], centre: u64, buffer: &mut [f32]) -> Result<(),
 /// # Errors
 /// Refusals 3, 6 and 8.
 pub fn has_sync(spectrum: &[f32], shift_hz: f64) -> Result<bool, Refusal> {
-    // SAFETY: the pointer and length are those of a slice that outlives the call.
-    let r = unsafe { ffi::funnelivy_has_sync(spectrum.as_ptr(), spectrum.len(), shift_hz) };
+    let r = calls::has_sync(spectrum, shift_hz);
     check(r.refusal)?;
     Ok(r.has_sync != 0)
 }

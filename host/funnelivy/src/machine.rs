@@ -4,7 +4,7 @@ use crate::{
     best_pulse_window, falling_edge, find_sync, has_sync, sample_store_length, sizes,
     sync_pulse_columns, sync_quality, sync_window, Refusal, Session, Work,
 };
-use recording::{Answer, Call, Machine};
+use recording::{Answer, Call, Length, Machine};
 
 /// The port, with the session opened last.
 #[derive(Default)]
@@ -20,6 +20,20 @@ fn count(n: u64) -> usize {
     usize::try_from(n).unwrap_or(usize::MAX)
 }
 
+/// Work memory or a buffer: the places that are made where a call asks for
+/// `asked`. One place too many is answered as any more are.
+fn places(length: Length, asked: usize) -> usize {
+    count(length.or(asked as u64)).min(asked + 1)
+}
+
+/// Work memory of these lengths.
+fn work(img: Length, votes: Length) -> Work {
+    let mut work = Work::new();
+    work.img.resize(places(img, work.img.len()), 0);
+    work.votes.resize(places(votes, work.votes.len()), 0);
+    work
+}
+
 fn or_refused(answer: Result<Answer, Refusal>) -> Answer {
     answer.unwrap_or_else(|r| Answer::Refused(r.0.into()))
 }
@@ -28,14 +42,14 @@ fn open(
     session: &mut Option<Session>,
     mode: u64,
     anchor: u64,
-    (flags, samples): (recording::Length, recording::Length),
+    (flags, samples): (Length, Length),
     first: &[f32],
 ) -> Result<Answer, Refusal> {
     let mode = mode_number(mode);
     let asked = sizes(mode).map_or(0, |s| s.window + s.picture);
     let flags = count(flags.or(asked));
     let samples = count(samples.or(sample_store_length(mode, flags) as u64));
-    let opened = Session::open_with(mode, anchor, vec![0; flags], vec![0.0; samples], first)?;
+    let opened = Session::open_lent(mode, anchor, (flags, samples), first)?;
     *session = Some(opened);
     Ok(Answer::Opened)
 }
@@ -51,8 +65,6 @@ fn read(session: &Session) -> Result<Answer, Refusal> {
 
 impl Machine for Port {
     fn make(&mut self, call: &Call) -> Option<Answer> {
-        let work = Work::new();
-        let (image, cells) = (work.img.len() as u64, work.votes.len() as u64);
         Some(or_refused(match call {
             Call::Columns { mode, n } => {
                 sync_pulse_columns(mode_number(*mode), *n).map(Answer::Count)
@@ -76,8 +88,7 @@ impl Machine for Port {
                 votes,
                 flags,
             } => {
-                let mut img = vec![0; count(img.or(image))];
-                let mut votes = vec![0; count(votes.or(cells))];
+                let Work { mut img, mut votes } = work(*img, *votes);
                 find_sync(flags, *rate, mode_number(*mode), &mut img, &mut votes).map(Answer::Found)
             }
             Call::Fill {
@@ -85,7 +96,7 @@ impl Machine for Port {
                 buffer,
                 sound,
             } => {
-                let mut buffer = vec![0.0; count(buffer.or(512))];
+                let mut buffer = vec![0.0; places(*buffer, 512)];
                 sync_window(sound, *centre, &mut buffer).map(|()| Answer::Filled(buffer))
             }
             Call::Probe { shift, spectrum } => has_sync(spectrum, *shift).map(Answer::Decided),
@@ -116,12 +127,8 @@ impl Machine for Port {
                     count(flag_store.or(own_flags as u64)),
                     count(sample_store.or(own_samples as u64)),
                 );
-                let mut work = Work {
-                    img: vec![0; count(img.or(image))],
-                    votes: vec![0; count(votes.or(cells))],
-                };
                 session
-                    .feed_lent(lengths, flags, samples, &mut work)
+                    .feed_lent(lengths, flags, samples, &mut work(*img, *votes))
                     .map(Answer::Took)
             }
             Call::Read => read(self.session.as_ref()?),

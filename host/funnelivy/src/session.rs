@@ -1,12 +1,14 @@
 //! A session with the memory that it is lent.
 
-use crate::ffi::{self, RawSession};
+use crate::ffi::RawSession;
 use crate::refusal::check;
-use crate::{End, Refusal, Report};
+use crate::{calls, End, Refusal, Report};
 
 /// Bytes of the drawn image and cells of the vote counts.
 const IMAGE_BYTES: usize = 441_000;
 const VOTE_CELLS: usize = 144_000;
+/// Longest flag store and flag list.
+pub const MOST_FLAGS: usize = 16_777_216;
 
 /// Whether a tone tells the parity of a mode's lines: Robot 24 and 36, whose
 /// sessions keep their samples.
@@ -15,14 +17,33 @@ pub fn has_parity_tone(mode: u8) -> bool {
     mode == 3 || mode == 4
 }
 
-/// Places that the sample store needs beside a flag store of `capacity`.
+/// Places that the sample store needs beside a flag store of `capacity`. Where
+/// they cannot be counted, none is long enough.
 #[must_use]
 pub fn sample_store_length(mode: u8, capacity: usize) -> usize {
     if has_parity_tone(mode) {
-        4 * capacity + 4
+        capacity.saturating_mul(4).saturating_add(4)
     } else {
         0
     }
+}
+
+/// The lengths of the stores that are made where these are asked for, so that
+/// a call is refused before much is allocated. A flag store that is too long
+/// is refused as an empty one is, and a sample store with one place more than
+/// the mode needs is answered as any longer one.
+fn made(mode: u8, (flags, samples): (usize, usize)) -> (usize, usize) {
+    if flags > MOST_FLAGS {
+        return (0, 0);
+    }
+    (flags, samples.min(sample_store_length(mode, flags) + 1))
+}
+
+/// A copy of a store in another length: padded, or cut.
+fn lent<T: Copy + Default>(store: &[T], length: usize) -> Vec<T> {
+    let mut copy = store[..length.min(store.len())].to_vec();
+    copy.resize(length, T::default());
+    copy
 }
 
 /// Work memory of `find_sync`. One serves any number of sessions in turn.
@@ -67,13 +88,29 @@ pub struct Session {
 
 impl Session {
     /// Opens a session. `capacity` is the length of the flag store; the sample
-    /// store of Robot 24 and 36 is made to fit.
+    /// store of Robot 24 and 36 is made to fit. Above [`MOST_FLAGS`] nothing is
+    /// allocated.
     ///
     /// # Errors
     /// Refusals 1, 4, 5, 6 and 8.
     pub fn open(mode: u8, anchor: u64, capacity: usize, first: &[f32]) -> Result<Self, Refusal> {
         let samples = sample_store_length(mode, capacity);
-        Self::open_with(mode, anchor, vec![0; capacity], vec![0.0; samples], first)
+        Self::open_lent(mode, anchor, (capacity, samples), first)
+    }
+
+    /// Opens over a flag store and a sample store of these lengths, as a host
+    /// might lend them.
+    ///
+    /// # Errors
+    /// Refusals 1, 4, 5, 6 and 8.
+    pub fn open_lent(
+        mode: u8,
+        anchor: u64,
+        lengths: (usize, usize),
+        first: &[f32],
+    ) -> Result<Self, Refusal> {
+        let (flags, samples) = made(mode, lengths);
+        Self::open_with(mode, anchor, vec![0; flags], vec![0.0; samples], first)
     }
 
     /// Opens a session over stores of the caller's.
@@ -87,20 +124,7 @@ impl Session {
         mut sample_store: Vec<f32>,
         first: &[f32],
     ) -> Result<Self, Refusal> {
-        // SAFETY: each pointer and length is that of a vector or slice that
-        // outlives the call; the one that is written is borrowed mutably.
-        let r = unsafe {
-            ffi::funnelivy_open(
-                mode,
-                anchor,
-                flag_store.as_ptr(),
-                flag_store.len(),
-                sample_store.as_mut_ptr(),
-                sample_store.len(),
-                first.as_ptr(),
-                first.len(),
-            )
-        };
+        let r = calls::open(mode, anchor, &flag_store, &mut sample_store, first);
         check(r.refusal)?;
         Ok(Self {
             raw: r.session,
@@ -114,59 +138,47 @@ impl Session {
     /// # Errors
     /// Refusals 5, 6, 7, 8 and 10.
     pub fn feed(&mut self, flags: &[u8], samples: &[f32], work: &mut Work) -> Result<u64, Refusal> {
-        // SAFETY: each pointer and length is that of a vector or slice that
-        // outlives the call; those that are written are borrowed mutably and
-        // do not overlap.
-        let r = unsafe {
-            ffi::funnelivy_feed(
-                self.raw,
-                self.flag_store.as_mut_ptr(),
-                self.flag_store.len(),
-                self.sample_store.as_mut_ptr(),
-                self.sample_store.len(),
-                work.img.as_mut_ptr(),
-                work.img.len(),
-                work.votes.as_mut_ptr(),
-                work.votes.len(),
-                flags.as_ptr(),
-                flags.len(),
-                samples.as_ptr(),
-                samples.len(),
-            )
-        };
+        let r = calls::feed(
+            self.raw,
+            &mut self.flag_store,
+            &mut self.sample_store,
+            work,
+            flags,
+            samples,
+        );
         check(r.refusal)?;
         self.raw = r.session;
         Ok(r.taken)
     }
 
-    /// Feeds over stores of other lengths, as a host might lend them: longer
-    /// ones are padded, shorter ones cut. A call that is not refused has the
-    /// session's own lengths.
+    /// Feeds over a flag store and a sample store of these lengths, as a host
+    /// might lend them: the session's own, padded or cut. Only a flag store of
+    /// the session's own length is not refused. A sample store may be longer,
+    /// and of any length where the mode has no parity tone; after the call the
+    /// session has its own again.
     ///
     /// # Errors
     /// Refusals 5, 6, 7, 8 and 10.
     pub fn feed_lent(
         &mut self,
-        (flags_lent, samples_lent): (usize, usize),
+        lengths: (usize, usize),
         flags: &[u8],
         samples: &[f32],
         work: &mut Work,
     ) -> Result<u64, Refusal> {
-        let (own_flags, own_samples) = self.store_lengths();
-        if (flags_lent, samples_lent) == (own_flags, own_samples) {
+        let own = self.store_lengths();
+        let (flags_lent, samples_lent) = made(self.raw.mode, lengths);
+        if lengths == own || (flags_lent, samples_lent) == own {
             return self.feed(flags, samples, work);
         }
-        let mut lent = Self {
+        let mut over = Self {
             raw: self.raw,
-            flag_store: self.flag_store.clone(),
-            sample_store: self.sample_store.clone(),
+            flag_store: lent(&self.flag_store, flags_lent),
+            sample_store: lent(&self.sample_store, samples_lent),
         };
-        lent.flag_store.resize(flags_lent, 0);
-        lent.sample_store.resize(samples_lent, 0.0);
-        let taken = lent.feed(flags, samples, work)?;
-        lent.flag_store.resize(own_flags, 0);
-        lent.sample_store.resize(own_samples, 0.0);
-        *self = lent;
+        let taken = over.feed(flags, samples, work)?;
+        over.sample_store = lent(&over.sample_store, own.1);
+        *self = over;
         Ok(taken)
     }
 
@@ -175,8 +187,7 @@ impl Session {
     /// # Errors
     /// Refusal 11 while it has not ended.
     pub fn read(&self) -> Result<Reading, Refusal> {
-        // SAFETY: a struct of numbers by value.
-        let r = unsafe { ffi::funnelivy_read(self.raw) };
+        let r = calls::read(self.raw);
         check(r.refusal)?;
         let end = match r.end {
             0 => End::Reported {

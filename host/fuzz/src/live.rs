@@ -55,6 +55,13 @@ fn sound(rng: &mut Rng, (mode, line, pulse): (u8, f64, usize), n: usize) -> Vec<
     flags
 }
 
+/// A mode, and the flags of a session of it with the shortest store.
+pub fn heard(rng: &mut Rng) -> (u8, Vec<u8>) {
+    let kind = rng.pick(&LINES);
+    let (window, picture) = sizes(kind.0);
+    (kind.0, sound(rng, kind, window + picture))
+}
+
 /// Opens with valid settings.
 pub fn valid(rng: &mut Rng, tally: &mut Tally) -> Result<Live, String> {
     // The two Robot modes have the long stores, so they come seldom.

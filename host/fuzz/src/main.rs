@@ -3,11 +3,13 @@
 //!     fuzz SEED ROUNDS
 //!
 //! The number that a call gives is compared with the one that its arguments
-//! ask for, and all lent memory with what the call may write. Prints how often
-//! each call was answered and refused with each number; one that was never
-//! reached is named, and the status is 1.
+//! ask for, and all lent memory with what the call may write; then the safe
+//! library's answers in other float environments with those in the default one.
+//! Prints how often each call was answered and refused with each number; one
+//! that was never reached is named, and the status is 1.
 
 mod feed;
+mod float_env;
 mod lent;
 mod live;
 mod record;
@@ -75,11 +77,18 @@ fn run(seed: u64, rounds: u64) -> Result<bool, String> {
     for _ in 0..SESSIONS {
         sessions.push(live::valid(&mut rng, &mut tally)?);
     }
+    let environments = float_env::followed();
     for number in 0..rounds {
-        round(&mut rng, &mut tally, &mut sessions)
-            .map_err(|what| format!("round {number}: {what}"))?;
+        let mut outcome = round(&mut rng, &mut tally, &mut sessions);
+        if environments {
+            outcome = outcome.and_then(|()| float_env::all(&mut rng, &mut tally));
+        }
+        outcome.map_err(|what| format!("round {number}: {what}"))?;
     }
-    let missed = tally.print();
+    let missed = tally.print(environments);
+    if !environments {
+        println!("the default float environment alone: MXCSR is not followed here (valgrind)");
+    }
     for name in &missed {
         println!("not reached: {name}");
     }

@@ -31,6 +31,16 @@ const CASES: [&str; 9] = [
     "feed: a record not its own, some flags taken",
 ];
 
+/// What must be reached where MXCSR is followed.
+const ENVIRONMENTS: [&str; 6] = [
+    "float environment: other sizes or columns",
+    "float environment: another quality",
+    "float environment: another window",
+    "float environment: another decision",
+    "float environment: another report",
+    "float environment: a session to its end",
+];
+
 #[derive(Default)]
 pub struct Tally {
     numbers: BTreeMap<(&'static str, u32), u64>,
@@ -56,7 +66,7 @@ impl Tally {
     }
 
     /// Prints the counts. Gives the names of what was not reached.
-    pub fn print(&self) -> Vec<String> {
+    pub fn print(&self, environments_tried: bool) -> Vec<String> {
         let mut missed = Vec::new();
         for (call, of) in CALLS {
             let mut line = String::new();
@@ -73,11 +83,16 @@ impl Tally {
             }
             println!("{call:12}{line}");
         }
-        for case in CASES {
+        let environments: &[&str] = if environments_tried {
+            &ENVIRONMENTS
+        } else {
+            &[]
+        };
+        for case in CASES.iter().chain(environments) {
             let n = self.cases.get(case).copied().unwrap_or(0);
             println!("{case}: {n}");
             if n == 0 {
-                missed.push(case.to_owned());
+                missed.push((*case).to_owned());
             }
         }
         missed

@@ -10,7 +10,7 @@ mod list;
 mod parse;
 mod run;
 
-pub use list::{read_floats, read_numbers, write_floats, write_numbers, Source};
+pub use list::{read_floats, read_numbers, write_floats, write_numbers, Source, MOST_ELEMENTS};
 pub use parse::{parse, Entry, Recording};
 pub use run::{record, replay, Machine, Outcome};
 

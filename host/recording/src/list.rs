@@ -2,6 +2,10 @@
 
 use std::path::Path;
 
+/// Longest list that runs may stand for: the samples of a flag list that is one
+/// longer than any that is taken.
+pub const MOST_ELEMENTS: usize = 4 * 16_777_217;
+
 /// Where files named by `@NAME` are looked for.
 #[derive(Clone, Copy, Debug)]
 pub struct Source<'a> {
@@ -41,12 +45,16 @@ pub(crate) fn bits(text: &str, digits: usize) -> Option<u64> {
     right.then(|| u64::from_str_radix(text, 16).ok()).flatten()
 }
 
-fn unrolled<T: Clone>(runs: Vec<(usize, T)>) -> Vec<T> {
+fn unrolled<T: Clone>(runs: Vec<(usize, T)>) -> Result<Vec<T>, String> {
     let mut all = Vec::new();
     for (times, value) in runs {
-        all.resize(all.len() + times, value);
+        let length = all.len().saturating_add(times);
+        if length > MOST_ELEMENTS {
+            return Err(format!("a list of at most {MOST_ELEMENTS} elements"));
+        }
+        all.resize(length, value);
     }
-    all
+    Ok(all)
 }
 
 /// Counts or flags. A file holds one byte an element.
@@ -61,8 +69,8 @@ where
         return Ok(source.read(name)?.into_iter().map(T::from).collect());
     }
     runs(text, decimal)
-        .map(unrolled)
         .ok_or_else(|| "a list of numbers, as `3*0,5,1` or `-`".to_owned())
+        .and_then(unrolled)
 }
 
 /// Floats by their bits. A file holds little-endian f32 values.
@@ -86,8 +94,8 @@ pub fn read_floats(text: &str, source: Source<'_>) -> Result<Vec<f32>, String> {
             .map(f32::from_bits)
     };
     runs(text, float)
-        .map(unrolled)
         .ok_or_else(|| "a list of floats by 8 hexadecimal digits each, or `-`".to_owned())
+        .and_then(unrolled)
 }
 
 fn written<T: PartialEq>(values: &[T], element: impl Fn(&T) -> String) -> String {

@@ -1,7 +1,7 @@
 //! The text of recordings: what is read is written back, and what is no part
 //! of a recording is refused with its line's number.
 
-use recording::{parse, record, replay, Answer, Call, Machine, Source, HEADER};
+use recording::{parse, record, replay, Answer, Call, Machine, Source, HEADER, MOST_ELEMENTS};
 use std::path::Path;
 
 const LINES: &str = "\
@@ -98,6 +98,42 @@ fn anything_else_is_an_error_with_its_line() {
     ] {
         assert_eq!(at(&format!("# one\n{wrong}\n")), 3, "{wrong}");
     }
+}
+
+#[test]
+fn a_list_that_is_too_long_is_an_error_that_says_so() {
+    let too_long = format!("a list of at most {MOST_ELEMENTS} elements");
+    for n in [MOST_ELEMENTS + 1, 1 << 50, 1 << 62, usize::MAX] {
+        for line in [
+            format!("edge {n}*0 = refused 9"),
+            format!("edge 1,{n}*0,{n}*1 = refused 9"),
+            format!("find 0 40c5888000000000 * * {n}*0 = refused 6"),
+            format!("fill 8 * {n}*00000000 = 512*00000000"),
+            format!("fill 8 * - = {n}*00000000"),
+            format!("feed * * * * - {n}*00000000 = refused 6"),
+        ] {
+            let error = parse(&text(&line), here(), true).unwrap_err();
+            assert_eq!((error.line, &error.expected), (2, &too_long), "{line}");
+        }
+    }
+    let longest = format!(
+        "find 0 40c5888000000000 * * 1,{}*0 = refused 6",
+        MOST_ELEMENTS - 1
+    );
+    assert!(parse(&text(&longest), here(), true).is_ok());
+}
+
+#[test]
+fn a_number_beyond_64_bits_is_an_error() {
+    for line in [
+        "fill 8 18446744073709551616 - = refused 5",
+        "open 9 18446744073709551616 * * - = refused 4",
+        "edge 18446744073709551616*0 = refused 9",
+    ] {
+        assert!(parse(&text(line), here(), true).is_err(), "{line}");
+    }
+    let most = "fill 8 18446744073709551615 - = refused 5";
+    assert!(parse(&text(most), here(), true).is_ok());
 }
 
 #[test]

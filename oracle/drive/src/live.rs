@@ -49,10 +49,11 @@ impl Live {
         }
         let row = spec(mode as usize);
         let least = window_probes(row) + sync::image_probes(row, 11_025.0);
+        let asked = capacity.saturating_mul(4).saturating_add(4);
         let refusal = lowest(&[
             (anchor > 1 << 62, 4),
             (capacity < least || capacity > 1 << 24, 5),
-            (robot(mode) && samples < 4 * capacity + 4, 5),
+            (robot(mode) && samples < asked, 5),
             (first.len() != 4, 6),
             (first.iter().any(loud), 8),
         ]);

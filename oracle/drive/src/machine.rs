@@ -111,7 +111,8 @@ impl Rust {
         let known = mode < 16;
         let capacity = length(lent[0], if known { shortest(mode as usize) } else { 0 });
         let robot = is_robot(mode as usize);
-        let samples = length(lent[1], if robot { 4 * capacity + 4 } else { 0 });
+        let asked = capacity.saturating_mul(4).saturating_add(4);
+        let samples = length(lent[1], if robot { asked } else { 0 });
         let refusal = self.live.open(mode, anchor, [capacity, samples], first);
         self.unless(refusal, |rust| {
             rust.stores = Some([capacity, samples]);
