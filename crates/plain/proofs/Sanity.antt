@@ -2,7 +2,7 @@
 -- not owed to w + 64j.
 -- Assumes nothing.
 use mathlib.Core.Path.{_≡_, refl, sym, _∙_, ap, ap₂, subst}
-use mathlib.Core.Bool.{Bool, true, false, false≢true, cond}
+use mathlib.Core.Bool.{Bool, true, false, false≢true, cond, _&&_}
 use mathlib.Core.List.{List, [], _∷_, _++_}
 use Prim.Native.Nat.{ℕ, _+_, _-_, _*_, _/_, _%_, _≤_, _<_}
 use native.Mathlib.Omega.{arith}
@@ -142,8 +142,8 @@ owed-more : (mode n : ℕ) → owed mode (n + 1) ≡ owed mode n + cond (dueAt m
 owed-more mode n = go (leb (windowOf mode) (n + 1)) refl (leb (windowOf mode) n) refl (eqb ((n + 1 - windowOf mode) % 64) 0) refl
   where
     due : (b c : Bool) → leb (windowOf mode) (n + 1) ≡ b → eqb ((n + 1 - windowOf mode) % 64) 0 ≡ c → dueAt mode (n + 1) ≡ cond b c false
-    due true c e f = rw (e, f)
-    due false c e f = rw e
+    due true c e f = ap₂ (λ (x y : Bool). x && y) e f
+    due false c e f = ap (λ (x : Bool). x && eqb ((n + 1 - windowOf mode) % 64) 0) e
 
     go : (b : Bool) → leb (windowOf mode) (n + 1) ≡ b → (c : Bool) → leb (windowOf mode) n ≡ c → (d : Bool) → eqb ((n + 1 - windowOf mode) % 64) 0 ≡ d
         → owed mode (n + 1) ≡ owed mode n + cond (dueAt mode (n + 1)) 1 0
