@@ -14,8 +14,11 @@
  *    3 shift not finite or beyond        9 count list, count, width, n or
  *      5,000 Hz either way                 lines outside the limits
  *    4 anchor or centre above 2^62      10 feed after the end
- *    5 lent memory of a wrong length    11 read before the end
- *    6 list of a wrong length
+ *    5 lent memory of a wrong length    11 read, or a session's card,
+ *    6 list of a wrong length              before the end
+ *   12 card of another length than 56   14 card with a field outside its
+ *   13 card with another mark or           limits, or filled where its end
+ *      version                             has none
  *
  * All memory is the caller's. The library keeps no pointer and allocates
  * nothing. A length is the true number of elements behind its pointer, and
@@ -66,6 +69,8 @@ extern "C" {
 #define FUNNELIVY_VOTE_CELLS 144000
 /* Longest flag store and flag list. */
 #define FUNNELIVY_MOST_FLAGS 16777216
+/* Length of a ledger card. */
+#define FUNNELIVY_CARD_BYTES 56
 /* Free stack that is enough for each call, and for each but feed and find_sync. */
 #define FUNNELIVY_STACK_BYTES 65536
 #define FUNNELIVY_SMALL_STACK_BYTES 8192
@@ -159,6 +164,52 @@ typedef struct {
     uint32_t has_slant;
 } funnelivy_reading;
 
+/*
+ * A ledger card: an ended session in 56 bytes, numbers little-endian, signed
+ * ones in two's complement and floats as their bits.
+ *
+ *    offset  bytes
+ *         0      3  the mark, 53 53 52 ("SSR")
+ *         3      2  the version, 1
+ *         5      1  mode
+ *         6      1  end: 0 reported, 1 unfound, 2 cut short
+ *         7      8  taken
+ *        15      8  evaluations
+ *        23      8  start
+ *        31      4  start quality
+ *        35      8  rate
+ *        43      1  slant index q: 0 to 239 for 30 + q / 2 degrees, 255 for none
+ *        44      8  skip
+ *        52      4  image quality
+ *
+ * What an end lacks is zero, and q 255: start and start quality of an unfound
+ * card; rate, slant, skip and image quality of an unfound or a cut short one.
+ *
+ * Refusal 14: a mode above 15 (which is not 1 here), an end above 2, q from 240
+ * to 254, a field that is filled though the end lacks it (any bit set, so -0.0
+ * too, or a q that is not 255), a quality that is not from 0 to 1, and in a
+ * reported card a rate that is not finite and positive or a skip beyond 2^62
+ * either way. A NaN is outside each of these limits, so that a card with one is
+ * refused; -0.0 is from 0 to 1.
+ */
+typedef struct {
+    uint64_t taken;
+    uint64_t evaluations;
+    uint64_t start;       /* reported, cut short */
+    int64_t skip;         /* reported */
+    double rate;          /* reported */
+    float start_quality;  /* reported, cut short */
+    float quality;        /* image quality: reported */
+    uint8_t mode;
+    uint8_t end;          /* 0 reported, 1 unfound, 2 cut short */
+    uint8_t slant;        /* index q, 255 for none */
+} funnelivy_card;
+
+typedef struct {
+    uint32_t refusal;
+    funnelivy_card card;
+} funnelivy_card_answer;
+
 /* The sizes of a mode, from which stores are made. Refuses 1. */
 funnelivy_sizes_answer funnelivy_sizes(uint8_t mode);
 
@@ -219,6 +270,21 @@ funnelivy_fed funnelivy_feed(funnelivy_session session, uint8_t *flag_store, siz
 
 /* The end of a session. Refuses 11. */
 funnelivy_reading funnelivy_read(funnelivy_session session);
+
+/* Writes a card's 56 bytes. Gives the refusal: 12 (buffer not 56 bytes), 14. A
+ * refused call writes to no buffer. What is written reads back as the same
+ * card, bit for bit. */
+uint32_t funnelivy_write_card(funnelivy_card card, uint8_t *out, size_t out_len);
+
+/* The card that 56 bytes hold. Refuses 12 (not 56 bytes), 13 (another mark or
+ * version), 14. A card that is read writes back as the same bytes. */
+funnelivy_card_answer funnelivy_read_card(const uint8_t *bytes, size_t bytes_len);
+
+/* The card of an ended session: what read gives, with the slant as its index.
+ * Refuses 11. The card of a session is never refused by write_card; that of a
+ * record that no call returned may be (a slant that is no angle of the table
+ * has the index 254). */
+funnelivy_card_answer funnelivy_session_card(funnelivy_session session);
 
 /* The library is for x86-64 alone; elsewhere these are left out and the rest can
  * still be read. It uses no x87 register, so that MXCSR is the whole of its float

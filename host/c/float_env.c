@@ -14,11 +14,16 @@ typedef struct {
     uint64_t position; /* of a picture with tones of amplitude 1e-39 */
     uint64_t picture;  /* P of Robot 24 B/W */
     float window[512]; /* around sound of 2e-38 and 0.3 */
+    uint32_t written;  /* of a card whose rate and qualities are the smallest there are */
+    uint32_t read;     /* of its bytes */
+    uint32_t below;    /* of a card whose quality is just below 0 */
+    uint8_t card[FUNNELIVY_CARD_BYTES];
 } answers;
 
 static float spectrum[258];
 static float sound[16];
 static picture faint;
+static funnelivy_card smallest, below;
 
 /* Only hands numbers on, so that nothing in it depends on the environment. */
 static void ask(answers *a) {
@@ -26,11 +31,16 @@ static void ask(answers *a) {
     a->position = feed_picture(open_picture(faint).session, faint).session.position;
     a->picture = funnelivy_sizes(6).picture;
     funnelivy_sync_window(sound, 16, 8, a->window, 512);
+    a->below = funnelivy_write_card(below, a->card, sizeof a->card);
+    a->written = funnelivy_write_card(smallest, a->card, sizeof a->card);
+    a->read = funnelivy_read_card(a->card, sizeof a->card).refusal;
 }
 
 static int same(const answers *a, const answers *b) {
     return a->has_sync == b->has_sync && a->position == b->position && a->picture == b->picture &&
-           memcmp(a->window, b->window, sizeof a->window) == 0;
+           memcmp(a->window, b->window, sizeof a->window) == 0 && a->written == b->written &&
+           a->read == b->read && a->below == b->below &&
+           memcmp(a->card, b->card, sizeof a->card) == 0;
 }
 
 enum { FLUSH = 0x8000, DENORMALS = 0x0040, DOWN = 0x2000, UP = 0x4000, CUT = 0x6000 };
@@ -52,6 +62,8 @@ static void answers_in_each_environment(void) {
     size_t i;
     ask(&usual);
     CHECK(usual.has_sync == 1 && usual.position == 944 && usual.picture == 66150);
+    CHECK(usual.written == 0 && usual.read == 0 && usual.card[31] == 1 && usual.card[35] == 1);
+    CHECK(usual.below == 14);
     for (i = 0; i < sizeof environments / sizeof environments[0]; i++) {
         unsigned found, saved;
         int seen, set, restored;
@@ -69,6 +81,7 @@ static void answers_in_each_environment(void) {
         check(!same(&bare, &usual), environments[i].bare);
         if (environments[i].bits == (FLUSH | DENORMALS)) {
             CHECK(bare.has_sync == 0 && bare.position == 2598 && bare.picture == 66150);
+            CHECK(bare.below == 0);
         }
         if (environments[i].bits == UP) {
             CHECK(bare.has_sync == 1 && bare.position == 944 && bare.picture == 66151);
@@ -127,11 +140,23 @@ void test_float_at_start(void) {
 #endif
 }
 
+/* By its bits, since -ffast-math may take a number so small for 0. */
+static void smallest_numbers(void) {
+    static const uint64_t rate = 1;
+    static const uint32_t quality = 1, negative = 0x80000001u;
+    memcpy(&smallest.rate, &rate, sizeof rate);
+    memcpy(&smallest.start_quality, &quality, sizeof quality);
+    memcpy(&smallest.quality, &quality, sizeof quality);
+    below = smallest;
+    memcpy(&below.quality, &negative, sizeof negative);
+}
+
 void test_float(void) {
     size_t i;
     for (i = 0; i < 16; i++) {
         sound[i] = i % 2 == 0 ? 2e-38f : 0.3f;
     }
+    smallest_numbers();
     faint = make_picture(1e-39);
     answers_in_each_environment();
     free_picture(faint);

@@ -4,7 +4,7 @@
 
 function snake(name) {
     sub(/^(Funnelivy|Raw)/, "", name)
-    if (raw && name !~ /^(Session|Opened|Fed|Reading)$/) name = name "Answer"
+    if (raw && name !~ /^(Session|Opened|Fed|Reading|Card|CardAnswer)$/) name = name "Answer"
     gsub(/[A-Z]/, "_&", name)
     return "funnelivy" tolower(name)
 }
@@ -29,10 +29,10 @@ inside && /^ +pub [a-z_]+: / {
     type = $3
     sub(/:/, "", field)
     sub(/,/, "", type)
-    if (type ~ /Session$/) {
-        size = size_of["funnelivy_session"]
+    if (type ~ /(Session|Card)$/) {
+        size = size_of[snake(type)]
         align = 8
-        kind = "SESSION"
+        kind = "RECORD"
     } else {
         size = substr(type, 2) / 8
         align = size
@@ -52,8 +52,8 @@ inside && /^}/ {
 
 # A source that is laid out in another way must not pass unread.
 END {
-    if (structs[0] != 10 || structs[1] != 10) {
-        printf "layout.awk: %d records in the Rattle source and %d in the Rust, not 10\n", structs[0], structs[1] > "/dev/stderr"
+    if (structs[0] != 12 || structs[1] != 12) {
+        printf "layout.awk: %d records in the Rattle source and %d in the Rust, not 12\n", structs[0], structs[1] > "/dev/stderr"
         exit 1
     }
 }

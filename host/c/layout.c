@@ -34,7 +34,7 @@ static int first_byte(const void *record, size_t offset) {
 #define FLOATING(record, field, offset, size) \
     PLACE(record, field, offset, size);       \
     KIND(record, field, offset, 0);
-#define SESSION(record, field, offset, size) PLACE(record, field, offset, size);
+#define RECORD(record, field, offset, size) PLACE(record, field, offset, size);
 #define SIZE(record, size) check(sizeof(record) == (size), #record " has " #size " bytes");
 
 /* Against the Rattle source and the Rust declarations, through layout.awk. */
@@ -54,6 +54,8 @@ static void layout_as_released(void) {
     SIZE(funnelivy_window_answer, 24)
     SIZE(funnelivy_quality_answer, 8)
     SIZE(funnelivy_decision_answer, 8)
+    SIZE(funnelivy_card, 56)
+    SIZE(funnelivy_card_answer, 64)
 }
 
 void test_layout(void) {

@@ -1,4 +1,4 @@
-/* Sessions from open to read, refusals, empty lists. */
+/* Sessions from open to read and card, refusals, empty lists. */
 #include "test.h"
 
 #include <stdlib.h>
@@ -21,6 +21,23 @@ static void pulses(uint8_t *flags, size_t n) {
     }
 }
 
+/* The card of an ended session says what read gave, and survives its bytes. */
+static void card_of(funnelivy_session session, uint8_t mode, funnelivy_reading reading) {
+    uint8_t bytes[FUNNELIVY_CARD_BYTES];
+    funnelivy_card_answer r = funnelivy_session_card(session);
+    funnelivy_card c = r.card;
+    CHECK(r.refusal == 0 && c.mode == mode && c.end == reading.end);
+    CHECK(c.taken == reading.taken && c.evaluations == reading.evaluations);
+    CHECK(c.start == reading.start && c.skip == reading.skip);
+    CHECK(memcmp(&c.rate, &reading.rate, sizeof c.rate) == 0);
+    CHECK(memcmp(&c.start_quality, &reading.start_quality, sizeof c.start_quality) == 0);
+    CHECK(memcmp(&c.quality, &reading.quality, sizeof c.quality) == 0);
+    CHECK(reading.has_slant ? c.slant < 240 && 30.0 + c.slant / 2.0 == reading.slant
+                            : c.slant == 255);
+    CHECK(funnelivy_write_card(c, bytes, sizeof bytes) == 0);
+    CHECK(same_card(funnelivy_read_card(bytes, sizeof bytes).card, c));
+}
+
 /* Feeds until the session ends or the flags do. */
 static funnelivy_reading run(setting s, const uint8_t *flags, size_t n) {
     static const float first[4] = {0, 0, 0, 0};
@@ -33,7 +50,7 @@ static funnelivy_reading run(setting s, const uint8_t *flags, size_t n) {
     funnelivy_reading reading = funnelivy_read(session);
     size_t at = 0;
     CHECK(opened.refusal == 0 && session.capacity == s.capacity && session.anchor == s.anchor);
-    CHECK(reading.refusal == 11);
+    CHECK(reading.refusal == 11 && refused_card(funnelivy_session_card(session), 11));
     while (at < n && reading.refusal == 11) {
         size_t m = n - at < s.block ? n - at : s.block;
         funnelivy_fed fed =
@@ -48,6 +65,7 @@ static funnelivy_reading run(setting s, const uint8_t *flags, size_t n) {
         reading = funnelivy_read(session);
     }
     CHECK(reading.taken == at && memcmp(flag_store, flags, at) == 0);
+    card_of(session, s.mode, reading);
     CHECK(funnelivy_feed(session, flag_store, s.capacity, sample_store, s.samples, img,
                          FUNNELIVY_IMAGE_BYTES, votes, FUNNELIVY_VOTE_CELLS, flags, 1, samples, 4)
               .refusal == 10);
@@ -132,6 +150,33 @@ static funnelivy_fed feed_part(funnelivy_session session, picture p, int second)
                           p.samples + 4 + 4 * from, 4 * n);
 }
 
+/* A record that no call returned has a card too, which the writer refuses. */
+static void cards_of_other_records(void) {
+    uint8_t bytes[FUNNELIVY_CARD_BYTES];
+    funnelivy_session s;
+    funnelivy_card_answer r;
+    memset(&s, 0, sizeof s);
+    CHECK(refused_card(funnelivy_session_card(s), 11));
+    s.mode = 200;
+    s.phase = 2;
+    s.anchor = UINT64_MAX;
+    s.position = 3;
+    s.has_slant = 7;
+    s.slant = 90.25;
+    r = funnelivy_session_card(s);
+    CHECK(r.refusal == 0 && r.card.mode == 200 && r.card.end == 0 && r.card.start == 2);
+    CHECK(r.card.slant == 254 && funnelivy_write_card(r.card, bytes, sizeof bytes) == 14);
+    s.slant = 149.5;
+    CHECK(funnelivy_session_card(s).card.slant == 239);
+    s.slant = 150.0;
+    CHECK(funnelivy_session_card(s).card.slant == 254);
+    s.slant = -1e300;
+    CHECK(funnelivy_session_card(s).card.slant == 254);
+    s.phase = 5;
+    r = funnelivy_session_card(s);
+    CHECK(r.refusal == 0 && r.card.end == 1 && r.card.start == 0 && r.card.slant == 255);
+}
+
 /* A refused feed gives zeros and leaves the stores; the session goes on with the
  * record that was handed to it, and ends as one that was never refused. */
 static void refused_feed(void) {
@@ -200,6 +245,7 @@ void test_sessions(void) {
     whole_session();
     silent_session();
     sessions_refuse();
+    cards_of_other_records();
     refused_feed();
     empty_lists();
 }

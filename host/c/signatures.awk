@@ -6,7 +6,7 @@
 
 function struct(name) {
     sub(/^(Funnelivy|Raw)/, "", name)
-    if (kind == "rs" && name !~ /^(Session|Opened|Fed|Reading)$/) name = name "Answer"
+    if (kind == "rs" && name !~ /^(Session|Opened|Fed|Reading|Card|CardAnswer)$/) name = name "Answer"
     gsub(/[A-Z]/, "_&", name)
     return "funnelivy" tolower(name)
 }
@@ -93,9 +93,9 @@ END {
         }
     }
     # A source that is laid out in another way must not pass unread.
-    if (calls["rt"] != 11 || calls["rs"] != 11 || calls["h"] != 11) {
+    if (calls["rt"] != 14 || calls["rs"] != 14 || calls["h"] != 14) {
         wrong = 1
-        printf "signatures.awk: %d calls in the Rattle source, %d in the Rust, %d in the header, not 11\n", calls["rt"], calls["rs"], calls["h"] > "/dev/stderr"
+        printf "signatures.awk: %d calls in the Rattle source, %d in the Rust, %d in the header, not 14\n", calls["rt"], calls["rs"], calls["h"] > "/dev/stderr"
     }
     exit wrong
 }

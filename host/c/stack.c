@@ -19,6 +19,8 @@ static picture sender;
 static funnelivy_session opened, reported;
 static uint32_t counts[700];
 static float sound[16], buffer[512], spectrum[258];
+static funnelivy_card card;
+static uint8_t bytes[FUNNELIVY_CARD_BYTES];
 
 static int call_sizes(void) {
     return funnelivy_sizes(4).picture == 99225;
@@ -67,6 +69,18 @@ static int call_read(void) {
     return funnelivy_read(reported).end == 0;
 }
 
+static int call_write_card(void) {
+    return funnelivy_write_card(card, bytes, FUNNELIVY_CARD_BYTES) == 0;
+}
+
+static int call_read_card(void) {
+    return funnelivy_read_card(bytes, FUNNELIVY_CARD_BYTES).card.slant == card.slant;
+}
+
+static int call_session_card(void) {
+    return funnelivy_session_card(reported).card.start == card.start;
+}
+
 static const struct {
     const char *name;
     int (*call)(void);
@@ -83,6 +97,9 @@ static const struct {
     {"open", call_open, FUNNELIVY_SMALL_STACK_BYTES},
     {"feed", call_feed, FUNNELIVY_STACK_BYTES},
     {"read", call_read, FUNNELIVY_SMALL_STACK_BYTES},
+    {"write_card", call_write_card, FUNNELIVY_SMALL_STACK_BYTES},
+    {"read_card", call_read_card, FUNNELIVY_SMALL_STACK_BYTES},
+    {"session_card", call_session_card, FUNNELIVY_SMALL_STACK_BYTES},
 };
 
 /* ---- the stack */
@@ -143,6 +160,8 @@ void test_stack(int print) {
     sender = make_picture(0.5);
     opened = open_picture(sender).session;
     reported = feed_picture(opened, sender).session;
+    card = funnelivy_session_card(reported).card;
+    CHECK(card.end == 0 && funnelivy_write_card(card, bytes, sizeof bytes) == 0);
     for (i = 300; i < 342; i++) {
         counts[i] = 1;
     }

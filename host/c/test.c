@@ -1,6 +1,6 @@
 /*
- * The C interface from C99 and C++11: layout of the records, known answers, a
- * session from open to read, a refusal of each call, stack, float environment.
+ * The C interface from C99 and C++11: layout of the records, known answers, cards,
+ * a session from open to read, a refusal of each call, stack, float environment.
  * Prints each check that fails and, last, `N passed, M failed`; before that, if
  * called with an argument, the stack that each call took.
  */
@@ -61,6 +61,7 @@ int main(int argc, char **argv) {
     saved = funnelivy_float_enter();
     test_layout();
     test_calls();
+    test_cards();
     test_sessions();
     test_stack(argc > 1);
     test_float();

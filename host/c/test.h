@@ -34,9 +34,16 @@ void free_picture(picture p);
 funnelivy_opened open_picture(picture p);
 funnelivy_fed feed_picture(funnelivy_session session, picture p);
 
+/* Whether all fields are the same, floats bit for bit. */
+int same_card(funnelivy_card a, funnelivy_card b);
+
+/* Whether the answer is this refusal, with 0 in every other field. */
+int refused_card(funnelivy_card_answer answer, uint32_t refusal);
+
 /* One subject and one file each. */
 void test_layout(void);
 void test_calls(void);
+void test_cards(void);
 void test_sessions(void);
 void test_stack(int print);
 void test_float_at_start(void);

@@ -1,12 +1,14 @@
 -- Laws of `listTo`, and of a list that is rewritten from the front. Assumes nothing.
 use mathlib.Core.Path.{_≡_, refl, sym, ap, _∙_}
+use mathlib.Core.Bool.{Bool, true, false, not}
 use mathlib.Core.Logic.{_⊎_, inl, inr}
 use mathlib.Core.List.{List, [], _∷_, _++_}
-use Prim.Native.Nat.{ℕ, zero, suc, _+_, _-_, _≤_, _<_}
+use Prim.Native.Nat.{ℕ, zero, suc, _+_, _-_, _≤_, _<_, zero-le}
 use native.Mathlib.Numerals.{add-one}
 use native.Mathlib.Omega.{arith}
 use native.Mathlib.Nat.{not-suc-le-zero, eq-or-lt-of-le}
-use lib.ListN.{length, getD, take, drop, set, replicate, length-replicate, getD-replicate, length-append, length-drop, length-set, List·getD-append}
+use lib.ListN.{length, getD, take, drop, set, replicate, length-replicate, getD-replicate, length-append, length-drop, length-set, List·getD-append, List·getD-eq-default}
+use lib.Dec.{T, ltb, ltb→lt, nltb→le}
 use lib.Seq.{ext-getD, getD-at, take-suc, take-suc-set, drop-set-lt, drop-cons, take-all}
 use Rattle.columns.specs.Columns.{listTo}
 
@@ -40,6 +42,14 @@ module _ {A : Type 0} (f : ℕ → A) where
   -- a list of n places, all of which are f's
   pub all-written : (l : List A) (n : ℕ) → length l ≡ n → take n l ≡ listTo f n → l ≡ listTo f n
   all-written l n h e = sym (take-all n l (omega arith)) ∙ e
+
+-- of numbers that are at most m
+pub list-below : (f : ℕ → ℕ) (n m : ℕ) → ((x : ℕ) → f x ≤ m) → (k : ℕ) → getD (listTo f n) k 0 ≤ m
+list-below f n m h k = go (ltb k n) (ltb→lt k n) (nltb→le k n)
+  where
+    go : (b : Bool) → (T b → k < n) → (T (not b) → n ≤ k) → getD (listTo f n) k 0 ≤ m
+    go true a c = rw (getD-list f n k 0 (a tt)) (h k)
+    go false a c = let e : length (listTo f n) ≤ k = rw (length-list f n) (c tt) in rw (List·getD-eq-default (listTo f n) 0 e) zero-le
 
 -- n zeros
 pub zero-list : (f : ℕ → ℕ) → ((x : ℕ) → f x ≡ 0) → (n : ℕ) → replicate n 0 ≡ listTo f n

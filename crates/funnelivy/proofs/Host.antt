@@ -1,23 +1,23 @@
--- Demand 3 at the C interface: a host's list of calls, each with the record last returned, is a list of calls on one session. So both theorems
--- on such lists hold of it.
+-- Demand 3 and the card at the C interface: a host's list of calls, each with the record last returned, is a list of calls on one session. So
+-- the theorems on such lists hold of it.
 -- Assumes nothing.
 use mathlib.Core.Path.{_≡_, refl, sym, _∙_, ap, subst}
-use mathlib.Core.Bool.{false}
+use mathlib.Core.Bool.{Bool, true, false, cond}
 use mathlib.Core.List.{List, _∷_, List·Memᴰ}
 use Prim.Native.Nat.{ℕ}
 use native.Mathlib.Omega.{arith}
 use lib.Dec.{eqb}
 use lib.ListN.{length, getD}
 use lib.Ieee.{Float}
-use borrow.Author.Tests.{ne-eqb}
+use borrow.Author.Tests.{eq-eqb, ne-eqb}
 use Rattle.hough.specs.declared.SlantDeg.the-variants.{None, Degrees}
 use Rattle.plain.specs.declared.End.{End}
 use Rattle.plain.specs.declared.End.the-variants as end
 use Rattle.plain.specs.declared.Phase.{Phase}
 use Rattle.plain.specs.declared.Phase.the-variants.{Searching, Collecting, Reported, Unfound, CutShort}
-use Rattle.plain.specs.Plain.{opened}
-use Rattle.plain.specs.Point.{pointOf, pointLess, endStage, FromAnchor}
-use Rattle.plain.specs.Calls.{Call, read, Answer, gave, refused, answers, runTo}
+use Rattle.plain.specs.Plain.{Plain, endedPhase, opened}
+use Rattle.plain.specs.Point.{Point, pointOf, pointLess, endStage, FromAnchor}
+use Rattle.plain.specs.Calls.{Call, read, Answer, gave, refused, answer, answers, readCode, runTo}
 use Rattle.session.specs.declared.Session.{Session}
 use Rattle.session.specs.declared.Opened.{Opened}
 use Rattle.session.specs.declared.Opened.the-variants as op
@@ -31,15 +31,22 @@ use Rattle.session.specs.Trace as list
 use Rattle.session.specs.Trace.{Trace}
 use Rattle.plain.specs.Lists.{flagsTaken, listReads}
 use Rattle.plain.proofs.TwoLists.{silence}
-use Rattle.session.proofs.Demand3.{as-plain, start-from-anchor, same-point}
+use Rattle.session.proofs.Demand3.{follows, as-plain, start-from-anchor, same-point}
+use Rattle.card.specs.Card as card
+use Rattle.ledger.specs.Back.{CardBack}
+use Rattle.ledger.proofs.ReadsBack.{session-card, no-card}
 use Rattle.c_record.specs.declared.FunnelivySession.{FunnelivySession}
 use Rattle.c_record.specs.declared.FunnelivyOpened.{FunnelivyOpened}
 use Rattle.c_record.specs.declared.FunnelivyFed.{FunnelivyFed}
+use Rattle.c_record.specs.declared.FunnelivyReading.{FunnelivyReading}
 use Rattle.c_record.specs.Record.{sessionOf}
 use Rattle.c_record.specs.Session.{openedWire, fedWire, endWire, readingWire}
-use Rattle.funnelivy.specs.Session.{OpenedMeets}
-use Rattle.funnelivy.specs.Host.{HostTrace, done, feeds, reads, lends, changes, fedAnswer, nextOf, readAnswer, Followed}
 use Rattle.c_record.proofs.RoundTrip.{round-trip}
+use Rattle.c_card.specs.declared.FunnelivyCardAnswer.{FunnelivyCardAnswer}
+use Rattle.c_card.specs.Cards.{refusedBy, writtenWire, readWire, sessionCardWire}
+use Rattle.funnelivy.specs.Session.{OpenedMeets, ReadingMeets}
+use Rattle.funnelivy.specs.Cards.{sessionCardAnswer}
+use Rattle.funnelivy.specs.Host.{HostTrace, done, feeds, reads, lends, changes, fedAnswer, nextOf, readingPoint, readAnswer, Followed, HostCard}
 
 -- ---- what the numbers say is what the inner answer says
 
@@ -75,6 +82,11 @@ given-same : (g : Given) → Numbered g → readAnswer (readingWire g) ≡ given
 given-same (given.Gave g) h = gave-same (g .end) (g .taken) (g .evaluations)
 given-same (given.Refused k) h = simp h
 
+reading-same : (w : FunnelivySession) (r : FunnelivyReading) (m : ReadingMeets w r) → readAnswer r ≡ givenOf (m .given)
+reading-same w r m =
+    let s : Session = sessionOf w in
+    ap readAnswer (m .is) ∙ given-same (m .given) (subst Numbered (sym (m .meets .says)) (numbered (s .phase) s))
+
 -- ---- a host's list is a list on the session that its record says
 
 -- a refused feed over other stores
@@ -96,11 +108,8 @@ traced (feeds w st sm im vo fl ys r st₁ sm₁ im₁ vo₁ cs as' z st' sm' m t
     (list.fed (sessionOf w) st sm im vo fl ys (m .fed) st₁ sm₁ im₁ vo₁ cs as' (sessionOf z) st' sm' (m .meets)
     (subst (λ (s : Session). Trace s st₁ sm₁ cs as' (sessionOf z) st' sm') (same .next) (traced t)))
 traced (reads w st sm r cs as' z st' sm' m t) =
-    let s : Session = sessionOf w in
-    let same : readAnswer r ≡ givenOf (m .given) =
-    ap readAnswer (m .is) ∙ given-same (m .given) (subst Numbered (sym (m .meets .says)) (numbered (s .phase) s)) in
-    subst (λ (a : Answer). Trace s st sm (read ∷ cs) (a ∷ as') (sessionOf z) st' sm') (sym same)
-    (list.gave s st sm (m .given) cs as' (sessionOf z) st' sm' (m .meets) (traced t))
+    subst (λ (a : Answer). Trace (sessionOf w) st sm (read ∷ cs) (a ∷ as') (sessionOf z) st' sm') (sym (reading-same w r m))
+    (list.gave (sessionOf w) st sm (m .given) cs as' (sessionOf z) st' sm' (m .meets) (traced t))
 traced (lends w st sm os oy im vo fl ys r os₁ oy₁ im₁ vo₁ cs as' z st' sm' m some t) =
     let number : r .refusal ≡ fedWire (m .fed) .refusal = ap (λ (x : FunnelivyFed). x .refusal) (m .is) in
     subst (λ (k : ℕ). Trace (sessionOf w) st sm (feedCall os oy im vo fl ys ∷ cs) (refused k ∷ as') (sessionOf z) st' sm') (sym number)
@@ -156,3 +165,56 @@ host-same-point mode a b st₁ st₂ sm₁ first₁ sm₁' sm₂ first₂ sm₂'
     let f = followed mode a st₁ sm₁ first₁ sm₁' o₁ m₁ e₁ t₁ in
     let g = followed mode b st₂ sm₂ first₂ sm₂' o₂ m₂ e₂ t₂ in
     same-point mode a b st₁ st₂ sm₁ first₁ sm₁' sm₂ first₂ sm₂' (f .session) (g .session) size (f .opened) (g .opened) (f .trace) (g .trace) flags parity
+
+-- ---- the card
+
+-- read is refused exactly before the end
+ended-by : (h : Phase) (s : Session) → endedPhase h ≡ eqb (readingWire (givenBy h s) .refusal) 0
+ended-by Searching s = refl
+ended-by (Collecting x) s = refl
+ended-by (Reported x r) s = refl
+ended-by Unfound s = refl
+ended-by (CutShort x) s = refl
+
+ended : (w : FunnelivySession) (g : FunnelivyReading) → ReadingMeets w g → endedPhase (sessionOf w .phase) ≡ eqb (g .refusal) 0
+ended w g m =
+    let s : Session = sessionOf w in
+    ended-by (s .phase) s ∙ sym (ap (λ (r : FunnelivyReading). eqb (r .refusal) 0) (m .is ∙ ap readingWire (m .meets .says)))
+
+gave-point : (a b : Point) (c : Bool) (k : ℕ) → gave a ≡ cond c (gave b) (refused k) → a ≡ b
+gave-point a b true k e = cc
+gave-point a b false k e = absurd (let z : _≡_ {A = ℕ} 0 1 = cc in omega arith)
+
+-- Any record that read refuses has no card: 11.
+pub host-no-card : (w : FunnelivySession) (g : FunnelivyReading) → ReadingMeets w g → (g .refusal ≡ 0 → ⊥) → sessionCardAnswer w ≡ refusedBy 11
+host-no-card w g m some = ap sessionCardWire (no-card (sessionOf w) (ended w g m ∙ ne-eqb (g .refusal) 0 some))
+
+module _ (mode anchor : ℕ) (st : List ℕ) (sm first sm₀ : List Float) where
+  -- what read gives after a list is the point after it
+  reading-point : {cs : List Call} {as' : List Answer} {z : FunnelivySession} {st' : List ℕ} {sm' : List Float}
+      → Followed mode anchor st sm first sm₀ cs as' z st' sm'
+      → (g : FunnelivyReading) → ReadingMeets z g → g .refusal ≡ 0 → readingPoint g ≡ sessionPoint (sessionOf z)
+  reading-point {cs} {as'} {z} {st'} {sm'} f g m none =
+      let p : Plain = opened (setup mode anchor (length st)) first in
+      let q : Plain = runTo p cs in
+      let said : readAnswer g ≡ answer q read = reading-same z g m ∙ m .meets .plain q st' sm' (follows (f .trace) p (f .opened .says .2) .1) in
+      gave-point (readingPoint g) (pointOf q) (eqb (readCode (q .phase)) 0) (readCode (q .phase)) (rw (eq-eqb (g .refusal) 0 none) at said)
+      ∙ sym (as-plain mode anchor st sm first sm₀ (f .session) (f .opened) (f .trace) .1)
+
+  -- Once read is not refused, the session has a card. It is written, reads back as the same answer, and says what read gives.
+  pub host-card : (o : FunnelivyOpened) → OpenedMeets mode anchor st sm first o sm₀ → o .refusal ≡ 0
+      → {cs : List Call} {as' : List Answer} {z : FunnelivySession} {st' : List ℕ} {sm' : List Float} → HostTrace (o .session) st sm₀ cs as' z st' sm'
+      → (g : FunnelivyReading) → ReadingMeets z g → g .refusal ≡ 0
+      → (r : FunnelivyCardAnswer) → r ≡ sessionCardAnswer z → HostCard mode g r
+  host-card o m e {cs} {as'} {z} t g n none r is =
+      let f = followed mode anchor st sm first sm₀ o m e t in
+      let b : CardBack mode (sessionOf z) =
+      session-card mode anchor st sm first sm₀ (f .session) (f .opened) (f .trace) (ended z g n ∙ eq-eqb (g .refusal) 0 none) in
+      subst (HostCard mode g) (sym (is ∙ ap sessionCardWire (b .given)))
+      (record {
+        refusal = refl;
+        written = λ out size. ap writtenWire (b .written out size .0);
+        back = λ out size. ap (λ (bytes : List ℕ). readWire (card.readAnswer bytes)) (b .written out size .1) ∙ ap readWire (b .back);
+        mode = b .mode;
+        says = b .says ∙ sym (reading-point f g n none);
+      })

@@ -4,6 +4,7 @@ use Prim.Native.Nat.{ℕ}
 use mathlib.Core.Bool.{false, cond}
 use mathlib.Core.List.{List, [], _∷_}
 use lib.Dec.{eqb}
+use lib.ListN.{length}
 use lib.Ieee.{Float}
 use Rattle.modespec.specs.Sizes.{robot}
 use Rattle.plain.specs.Point.{Point, Stage, reported, unfound, cutShort}
@@ -12,11 +13,16 @@ use Rattle.session.specs.declared.Session.{Session}
 use Rattle.session.specs.declared.Opened.the-variants.{Ready}
 use Rattle.session.specs.Hold.{OpenMeets, feedCall}
 use Rattle.session.specs.Trace.{Trace}
+use Rattle.ledger.specs.Ledger.{cardPoint}
 use Rattle.c_record.specs.declared.FunnelivySession.{FunnelivySession}
 use Rattle.c_record.specs.declared.FunnelivyFed.{FunnelivyFed}
 use Rattle.c_record.specs.declared.FunnelivyReading.{FunnelivyReading}
 use Rattle.c_record.specs.Record.{slantOf, sessionOf}
+use Rattle.c_card.specs.declared.FunnelivyCard.{FunnelivyCard}
+use Rattle.c_card.specs.declared.FunnelivyCardAnswer.{FunnelivyCardAnswer}
+use Rattle.c_card.specs.Cards.{cardOfWire}
 use Rattle.funnelivy.specs.Session.{FedMeets, ReadingMeets}
+use Rattle.funnelivy.specs.Cards.{writeCardAnswer, cardBuffer, readCardAnswer}
 
 -- ---- what a host reads off the numbers
 
@@ -34,6 +40,10 @@ stageOf r =
 
 abbrev pub readingPoint : FunnelivyReading → Point
 readingPoint r = record { stage = stageOf r; taken = r .taken; evaluations = r .evaluations }
+
+-- the same of a card
+abbrev pub wirePoint : FunnelivyCard → Point
+wirePoint w = cardPoint (cardOfWire w)
 
 abbrev pub readAnswer : FunnelivyReading → Answer
 readAnswer r = cond (eqb (r .refusal) 0) (gave (readingPoint r)) (refused (r .refusal))
@@ -77,3 +87,14 @@ pub record Followed
   pub session : Session
   pub opened : OpenMeets mode anchor flagStore sampleStore first (Ready session) sampleStore'
   pub trace : Trace session flagStore sampleStore' cs as' (sessionOf z) flagEnd sampleEnd
+
+-- ---- the card
+
+-- A session's card reads back as its report (02-change-requests.md, A.1): the card that was given is written into any buffer of 56 bytes, these
+-- read back as that answer, and it says the mode of open and all that read gives.
+pub record HostCard (opened : ℕ) (g : FunnelivyReading) (r : FunnelivyCardAnswer) : Type 0 where
+  pub refusal : r .refusal ≡ 0
+  pub written : (out : List ℕ) → length out ≡ 56 → writeCardAnswer (r .card) out ≡ 0
+  pub back : (out : List ℕ) → length out ≡ 56 → readCardAnswer (cardBuffer (r .card) out) ≡ r
+  pub mode : r .card .mode ≡ opened
+  pub says : wirePoint (r .card) ≡ readingPoint g

@@ -3,4 +3,5 @@ pub mod Sizes
 pub mod Sound
 pub mod Report
 pub mod Session
+pub mod Cards
 pub mod Host

@@ -2,18 +2,17 @@
 -- quotient keep it. So a bound on an operand gives a bound on the result. Assumes nothing.
 use mathlib.Core.Path.{_≡_, refl, sym, ap, _∙_, subst}
 use mathlib.Core.Bool.{Bool, true, false, not, _&&_, _||_, cond, true≢false}
-use Prim.Native.Nat.{ℕ, zero, suc, _+_, _-_, _*_, _/_, _^_, _≤_, _<_, zero-le}
-use native.Mathlib.Nat.{le-trans, le-of-eq, mul-pos, mul-comm, mul-assoc, mul-left-comm, mul-right-comm, mul-le-mul, mul-le-mul-right, mul-mul-mul-comm, add-mul, mul-add, zero-mul, lt-irrefl, mul-one}
+use Prim.Native.Nat.{ℕ, zero, suc, _+_, _-_, _*_, _/_, _^_, _≤_, _<_}
+use native.Mathlib.Nat.{le-trans, le-of-eq, mul-pos, mul-comm, mul-assoc, mul-left-comm, mul-le-mul, mul-le-mul-right, mul-mul-mul-comm, add-mul, lt-irrefl}
 use native.Mathlib.Omega.{arith}
-use lib.IntN.{ℤ}
-use lib.Dec.{T, ltb, eqb, ltb→lt, lt→ltb, eqb→eq}
+use lib.Dec.{T, ltb, eqb, ltb→lt, eqb→eq}
 use lib.Ieee.{Float, nan, inf, fin, Format, prec, emax, low, up, down, size, odd, units, round, sum, add, mul, div, le}
 use lib.Ieee.Fits.{up-pos, round-is}
 use lib.Ieee.Nearest.{closest}
 use lib.Ieee.Exact.{HasValue}
-use lib.Ieee.Order.{le-of-values, round-mono}
+use lib.Ieee.Order.{transfer, le-of-values, round-mono}
 use lib.Ieee.Positive.{num, den, den-pos, positive, positive-of-value, value→cross, through}
-use lib.Ieee.Scale.{round-same}
+use lib.Ieee.Scale.{round-same, finite}
 
 -- finite, with the sign clear
 abbrev pub unsigned : Float → Bool
@@ -32,6 +31,11 @@ unsigned-of-value nan a c h = absurd h
 unsigned-of-value (inf s) a c h = absurd h
 unsigned-of-value (fin true m e) a c h = absurd (true≢false (h .0))
 unsigned-of-value (fin false m e) a c h = tt
+
+pub unsigned-finite : (x : Float) → T (unsigned x) → T (finite x)
+unsigned-finite nan p = absurd p
+unsigned-finite (inf s) p = absurd p
+unsigned-finite (fin s m e) p = tt
 
 -- ---- the order
 weak : (a b : ℕ) → T (ltb a b || (eqb a b && true)) → a ≤ b
@@ -60,6 +64,11 @@ le→cross (fin false m e) (fin false n d) p q h = weak (m * up e * down d) (n *
 
 pub cross→le : (x y : Float) → T (unsigned x) → T (unsigned y) → num x * den y ≤ num y * den x → T (le x y)
 cross→le x y p q h = le-of-values x y (num x) (den x) (num y) (den y) (den-pos x) (den-pos y) (own-value x p) (own-value y q) h
+
+-- by any fractions that the two equal
+pub values-of-le : (x y : Float) (a c b d : ℕ) → T (unsigned x) → T (unsigned y) → HasValue x false a c → HasValue y false b d → T (le x y) → a * d ≤ b * c
+values-of-le x y a c b d p q h k l =
+    transfer a b c d (num x) (num y) (den x) (den y) (den-pos x) (den-pos y) (sym (value→cross x a c h)) (sym (value→cross y b d k)) (le→cross x y p q l)
 
 pub le-trans-unsigned : (x y z : Float) → T (unsigned x) → T (unsigned y) → T (unsigned z) → T (le x y) → T (le y z) → T (le x z)
 le-trans-unsigned x y z p q r h k = cross→le x z p r (through (num x) (num y) (num z) (den x) (den y) (den z) (den-pos y) (le→cross x y p q h) (le→cross y z q r k))
@@ -220,7 +229,7 @@ below-finite (inf false) (inf t) c p h = absurd p
 below-finite (inf false) (fin t n d) c p h = absurd h
 below-finite (fin s m e) hi c p h = c
 
-bounded : (f : Format) (a b : ℕ) (z hi : Float) → z ≡ round f false a b → T (unsigned hi) → T (le z hi) → T (unsigned z)
+pub bounded : (f : Format) (a b : ℕ) (z hi : Float) → z ≡ round f false a b → T (unsigned hi) → T (le z hi) → T (unsigned z)
 bounded f a b z hi e p h =
     below-finite z hi (subst (λ (k : Float). T (clear k)) (sym (e ∙ round-is f false a b)) (units-clear f (closest (a * 2 ^ low f) (b * 2 ^ (size (a * 2 ^ low f / b) - prec f))) (size (a * 2 ^ low f / b) - prec f))) p h
 

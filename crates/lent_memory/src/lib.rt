@@ -77,7 +77,7 @@ pub fn same_sums(a: Sums, b: Sums) -> bool {
 }
 
 // Whether the first n values of `part` stand at the front of `memory`.
-fn begins_with(memory: &[u8], part: &[u8], n: usize) -> bool {
+pub fn begins_with(memory: &[u8], part: &[u8], n: usize) -> bool {
     let mut i: usize = 0;
     while i < n {
         if i >= memory.len() {

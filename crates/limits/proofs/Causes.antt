@@ -1,6 +1,6 @@
 -- Laws of the number of a refused call: what a number of 0 says of its causes. Assumes nothing.
 use mathlib.Core.Path.{_≡_, refl}
-use mathlib.Core.Bool.{Bool, true, false, cond}
+use mathlib.Core.Bool.{Bool, true, false, true≢false, cond, _||_}
 use Prim.Native.Nat.{ℕ, _<_}
 use native.Mathlib.Omega.{arith}
 use lib.Dec.{eqb}
@@ -11,6 +11,16 @@ use Rattle.limits.specs.Refusals.{orElse}
 pub none : (b : Bool) (n r : ℕ) → 0 < n → cond b n r ≡ 0 → (b ≡ false) × (r ≡ 0)
 none true n r h e = absurd (omega arith)
 none false n r h e = (refl, e)
+
+-- ---- two causes of one number, none of which applies
+
+pub or-left : (a b : Bool) → a || b ≡ false → a ≡ false
+or-left true b e = e
+or-left false b e = refl
+
+pub or-right : (a b : Bool) → a || b ≡ false → b ≡ false
+or-right true b e = absurd (true≢false e)
+or-right false b e = e
 
 -- ---- of two numbers the first that is not 0
 

@@ -6,30 +6,29 @@ use mathlib.Core.List.{List, [], _∷_, _++_}
 use Prim.Native.Nat.{ℕ, _+_, _*_, _≤_}
 use native.Mathlib.Omega.{arith}
 use lib.ListN.{length, length-append}
-use lib.Dec.{eqb, ltb, leb}
+use lib.Dec.{eqb, ltb}
 use lib.Ieee.{Float}
 use borrow.Author.Tests.{eq-eqb, le-ltb}
 use Rattle.limits.specs.Ranges.{allAtMost, anyAbove, anyUnsound, unsound}
-use Rattle.limits.proofs.Causes.{none}
+use Rattle.limits.proofs.AtMost.{at-most-append}
+use Rattle.limits.proofs.Causes.{none, or-left, or-right}
 use Rattle.plain.specs.declared.Phase.{Phase}
 use Rattle.plain.specs.Plain.{Setup, Plain, endedPhase, through}
 use Rattle.plain.specs.Calls.{Lengths, feed, feedCode, memoryCode, soundCode, orderCode, after, runTo}
 use Rattle.plain.proofs.Codes.{code-parts, room-of-sound}
-use Rattle.plain.proofs.Laws.{through-append, through-ended, or-left, or-right}
+use Rattle.plain.proofs.Laws.{through-append, through-ended}
 use Rattle.plain.proofs.Lists.{through-setup}
 
 or-assoc : (a b c : Bool) → a || (b || c) ≡ (a || b) || c
 or-assoc true b c = refl
 or-assoc false b c = refl
 
-above-append : (xs ys : List ℕ) → anyAbove (xs ++ ys) ≡ anyAbove xs || anyAbove ys
-unfolding allAtMost
-above-append [] ys = refl
-above-append (x ∷ xs) ys = go (above-append xs ys) (leb x 1)
-  where
-    go : anyAbove (xs ++ ys) ≡ anyAbove xs || anyAbove ys → (b : Bool) → not (b && allAtMost 1 (xs ++ ys)) ≡ not (b && allAtMost 1 xs) || anyAbove ys
-    go h true = h
-    go h false = refl
+not-both : (a b : Bool) → not (a && b) ≡ not a || not b
+not-both true b = refl
+not-both false b = refl
+
+pub above-append : (xs ys : List ℕ) → anyAbove (xs ++ ys) ≡ anyAbove xs || anyAbove ys
+above-append xs ys = ap not (at-most-append 1 xs ys) ∙ not-both (allAtMost 1 xs) (allAtMost 1 ys)
 
 unsound-append : (xs ys : List Float) → anyUnsound (xs ++ ys) ≡ anyUnsound xs || anyUnsound ys
 unfolding anyUnsound
@@ -43,7 +42,7 @@ pub record Clean (fl : List ℕ) (ys : List Float) : Type 0 where
   pub flags : anyAbove fl ≡ false
   pub samples : anyUnsound ys ≡ false
 
-clean-of : (fl : List ℕ) (ys : List Float) → soundCode fl ys ≡ 0 → Clean fl ys
+pub clean-of : (fl : List ℕ) (ys : List Float) → soundCode fl ys ≡ 0 → Clean fl ys
 unfolding soundCode
 clean-of fl ys e =
     let room = room-of-sound fl ys e in

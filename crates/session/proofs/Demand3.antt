@@ -45,7 +45,7 @@ any-samples p s st sm other e h =
     }
 
 -- what is held along a list
-follows : {s : Session} {st : List ℕ} {sm : List Float} {cs : List Call} {as' : List Answer} {z : Session} {st' : List ℕ} {sm' : List Float}
+pub follows : {s : Session} {st : List ℕ} {sm : List Float} {cs : List Call} {as' : List Answer} {z : Session} {st' : List ℕ} {sm' : List Float}
     → Trace s st sm cs as' z st' sm' → (p : Plain) → Holds p s st sm → (as' ≡ answers p cs) × Holds (runTo p cs) z st' sm'
 unfolding answers runTo
 follows (done s st sm) p h = (refl, h)

@@ -1,5 +1,6 @@
 // One call over lent memory: the call, and whether its answer is the Rust's.
 mod reading;
+mod session_card;
 
 use lent_memory as memory;
 use session::Fed;
@@ -181,5 +182,8 @@ pub fn given(session: Session, x: u64, y: u64, bytes: &[u8], img: &[u8], votes: 
             && reading::is_right(reading, y, bytes)
             && memory::work_is(y == 0, img, votes),
     };
-    Turn { session, right }
+    Turn {
+        session,
+        right: right & session_card::is_right(session, x, bytes),
+    }
 }

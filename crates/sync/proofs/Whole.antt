@@ -57,14 +57,14 @@ slipped-below x = go (ltb 350 x)
     go true = omega arith
     go false = omega arith
 
-pub edge-below : (counts : List ℕ) → edgeOf counts ≤ 65536
+pub edge-below : (counts : List ℕ) → edgeOf counts ≤ 700
 unfolding edgeOf
 edge-below counts = go (eqb top 0)
   where
     top : ℕ
     top = largest (fallAt counts) 692
 
-    go : (t : Bool) → cond t 0 (slipped (firstWith (fallAt counts) (largest (fallAt counts) 692) 0 692 + 4)) ≤ 65536
+    go : (t : Bool) → cond t 0 (slipped (firstWith (fallAt counts) (largest (fallAt counts) 692) 0 692 + 4)) ≤ 700
     go true = omega arith
     go false = omega (arith, slipped-below (firstWith (fallAt counts) (largest (fallAt counts) 692) 0 692 + 4), first-below (fallAt counts) (largest (fallAt counts) 692) 0 692)
 

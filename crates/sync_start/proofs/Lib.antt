@@ -2,6 +2,5 @@
 pub mod Column
 pub mod Judging
 pub mod Samples
-pub mod Magnitudes
 pub mod Positions
 pub mod Evaluations

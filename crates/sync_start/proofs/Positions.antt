@@ -20,7 +20,7 @@ use Rattle.columns.specs.Columns.{columnPart}
 use Rattle.window_fold.specs.Fold.{linesAt}
 use Rattle.first_line.specs.Pulsed.{firstLine, firstPair, halfSet, pulsedLine, lineProbes, pulseProbes, narrowLine, wideLine, orZero, firstPulsedLine}
 use Rattle.sync_start.specs.Evaluate.{lineStart, evenStart, positionOf}
-use Rattle.sync_start.proofs.Magnitudes.{Under, isUnder, under-tested, weaker, add-under, sub-under, mul-under, part-under, whole-under, away-under, held-under, cut-under}
+use Rattle.ieee.proofs.Magnitudes.{Under, isUnder, under-tested, weaker, add-under, sub-under, mul-under, part-under, whole-under, away-under, held-under, cut-under}
 
 -- ---- the first line is one of the window
 

@@ -1,30 +1,20 @@
 -- Laws of a window without a set flag: its blocks, and its counts. Assumes nothing.
 use mathlib.Core.Path.{_≡_, refl, sym, ap, _∙_}
 use mathlib.Core.Bool.{Bool, true, false, _&&_}
-use mathlib.Core.List.{List, [], _∷_, _++_}
+use mathlib.Core.List.{List}
 use Prim.Native.Nat.{ℕ, zero, suc, _+_, _-_}
 use native.Mathlib.Omega.{arith}
 use borrow.Author.Tests.{eq-eqb}
-use lib.Dec.{leb}
 use lib.Ieee.{Float}
 use lib.ListN.{getD, take, drop, replicate, take-append-drop}
 use lib.Seq.{drop-drop}
 use Rattle.limits.specs.Ranges.{allAtMost}
-use Rattle.limits.proofs.AtMost.{at-most-each}
+use Rattle.limits.proofs.AtMost.{at-most-append, at-most-each}
 use Rattle.columns.specs.Columns.{probeOf}
 use Rattle.window_fold.specs.Fold.{hitBy, hitAt, hitsTo, linesAt, foldTo}
 use Rattle.columns.proofs.Lists.{zero-list}
 
 -- ---- a block of a window
-
-both : (a b c d : Bool) → b ≡ (c && d) → (a && b) ≡ ((a && c) && d)
-both true b c d e = e
-both false b c d e = refl
-
-most-append : (n : ℕ) (xs ys : List ℕ) → allAtMost n (xs ++ ys) ≡ (allAtMost n xs && allAtMost n ys)
-unfolding allAtMost
-most-append n [] ys = refl
-most-append n (x ∷ xs) ys = both (leb x n) (allAtMost n (xs ++ ys)) (allAtMost n xs) (allAtMost n ys) (most-append n xs ys)
 
 module _ (window : List ℕ) (i m : ℕ) where
   abbrev block : List ℕ
@@ -32,7 +22,7 @@ module _ (window : List ℕ) (i m : ℕ) where
 
   split : allAtMost 0 (drop i window) ≡ (allAtMost 0 block && allAtMost 0 (drop (i + m) window))
   split =
-      ap (allAtMost 0) (sym (take-append-drop m (drop i window))) ∙ most-append 0 block (drop m (drop i window))
+      ap (allAtMost 0) (sym (take-append-drop m (drop i window))) ∙ at-most-append 0 block (drop m (drop i window))
       ∙ ap (λ (l : List ℕ). allAtMost 0 block && allAtMost 0 l) (drop-drop m i window)
 
   -- as the code takes the block, and r says whether no flag of it is set

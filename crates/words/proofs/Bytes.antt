@@ -1,13 +1,21 @@
 -- One byte more of a number, the least first. Assumes nothing.
-use mathlib.Core.Path.{_≡_, refl, sym, ap, _∙_, subst}
-use mathlib.Core.List.{List, [], _∷_}
-use Prim.Native.Nat.{ℕ, zero, suc, _+_, _-_, _*_, _^_, _≤_, _<_}
+use mathlib.Core.Path.{_≡_, sym, ap, _∙_, subst}
+use mathlib.Core.List.{List}
+use Prim.Native.Nat.{ℕ, suc, _+_, _-_, _*_, _^_, _≤_, _<_}
 use native.Mathlib.Nat.{lt-of-lt-of-le}
 use native.Mathlib.Omega.{arith}
 use lib.ListN.{length, take, drop, getD}
 use lib.Seq.{drop-cons}
 use lib.Pow.{pow-add, pow-mono}
 use Rattle.words.specs.Words.{littleEndian, numberAt}
+
+-- a single byte
+pub single : (b : List ℕ) (at : ℕ) → at < length b → getD b at 0 ≡ numberAt b at 1
+unfolding littleEndian
+single b at h = sym (ap (λ (l : List ℕ). littleEndian (take 1 l)) (drop-cons b at 0 h) ∙ plus (getD b at 0))
+  where
+    plus : (n : ℕ) → n + 256 * 0 ≡ n
+    plus n = omega arith
 
 -- v is the number of the n - i bytes from at + i on, and below 2 ^ (8 * (n - i))
 pub record Read (b : List ℕ) (at n i v : ℕ) : Type 0 where

@@ -26,6 +26,18 @@ unfolding div ofBits
 quotient binary32 = refl
 quotient binary64 = refl
 
+-- the pattern that the definition writes for a NaN
+pub nan-bits : (f : Format) (x : Float) → ne x x ≡ true → toBits f nan ≡ toBits f x
+nan-bits f x h = ap (toBits f) (sym (differs-from-itself x (subst T (sym h) tt)))
+
+pub nan-bits64 : toBits binary64 nan ≡ 0x7ff8_0000_0000_0000
+unfolding toBits
+nan-bits64 = refl
+
+pub nan-bits32 : toBits binary32 nan ≡ 0x7fc0_0000
+unfolding toBits
+nan-bits32 = refl
+
 pub of-nan : (f : Format) (n : ℕ) → ones f * hid f < bitAnd n (top f - 1) → div f (ofBits f 0) (ofBits f 0) ≡ ofBits f n
 of-nan f n h = quotient f ∙ sym (is-nan (ofBits f n) (sym (nanBits-is f n) ∙ tests f n ∙ lt-ltb (ones f * hid f) (bitAnd n (top f - 1)) h))
 

@@ -1,10 +1,11 @@
-// Numbers and floats in bytes: a word has eight bytes, the least first, and a half word four.
+// Numbers as bytes, the least first, and back: whole numbers, signed ones in two's complement, and the bit patterns of floats. A word has eight bytes, a half word four.
 ghost use mathlib.Core.Path.{_≡_};
 ghost use Prim.Native.Nat.{_+_, _*_, _%_, _^_, _≤_, _<_};
 ghost use lib.ListN.{length};
+ghost use lib.Seq.{sets};
 ghost use lib.Ieee as Ieee;
 ghost use lib.Ieee.{binary32, binary64};
-ghost use Rattle.words.specs.Words.{numberAt, hasBits, bitsOf};
+ghost use Rattle.words.specs.Words.{numberAt, bytesOf, hasBits, bitsOf, signedOf};
 
 fn wide(x: u8) -> u64
     ensures { λ r. ⌜ r ≡ x ⌝ }
@@ -13,7 +14,7 @@ fn wide(x: u8) -> u64
 }
 
 // The n bytes from place `at` on as a number, the least first.
-fn number(b: &[u8], at: usize, n: usize) -> u64
+pub fn number(b: &[u8], at: usize, n: usize) -> u64
     requires { ⌜ (n ≤ 8) × (at + n ≤ length (now b)) ⌝ }
     ensures { λ r. ⌜ (r ≡ numberAt (now (b .entry)) at n) × (r < 2 ^ (8 * n)) ⌝ }
 {
@@ -24,6 +25,14 @@ fn number(b: &[u8], at: usize, n: usize) -> u64
         v = v * 256 + wide(b[at + i]);
     }
     v
+}
+
+// The byte at place `at`.
+pub fn byte(b: &[u8], at: usize) -> u8
+    requires { ⌜ at + 1 ≤ length (now b) ⌝ }
+    ensures { λ r. ⌜ r ≡ numberAt (now (b .entry)) at 1 ⌝ }
+{
+    b[at]
 }
 
 // The word at place `at`.
@@ -49,6 +58,20 @@ pub fn low_half(x: u64) -> u32
     (x & 0xffff_ffff) as u32
 }
 
+// Writes the n lowest bytes of v from place `at` on, the least first.
+pub fn put(b: &mut [u8], at: usize, n: usize, v: u64)
+    requires { ⌜ at + n ≤ length (now b) ⌝ }
+    ensures { λ r. ⌜ now (b .exit) ≡ sets (now (b .entry)) at (bytesOf n v) ⌝ }
+{
+    let mut rest = v;
+    let mut i: usize = 0;
+    while i < n {
+        b[at + i] = (rest % 256) as u8;
+        rest = rest / 256;
+        i += 1;
+    }
+}
+
 // The bits of x in two's complement.
 pub fn signed_bits(x: i64) -> u64
     ensures { λ r. ⌜ r ≡ bitsOf x ⌝ }
@@ -57,6 +80,17 @@ pub fn signed_bits(x: i64) -> u64
         18446744073709551615 - ((-1 - x) as u64)
     } else {
         x as u64
+    }
+}
+
+// The number whose two's complement is b.
+pub fn signed_of(b: u64) -> i64
+    ensures { λ r. ⌜ r ≡ signedOf b ⌝ }
+{
+    if b < 9223372036854775808 {
+        b as i64
+    } else {
+        -1 - ((18446744073709551615 - b) as i64)
     }
 }
 
@@ -80,6 +114,23 @@ pub fn float32_of(bits: u32) -> f32
     } else {
         f32::from_bits(bits)
     }
+}
+
+// The bit pattern of x. A NaN has the one that the definition gives it.
+pub fn float_bits(x: f64) -> u64
+    ensures { λ r. ⌜ r ≡ Ieee.toBits binary64 x ⌝ }
+{
+    if x != x {
+        0x7ff8_0000_0000_0000
+    } else {
+        f64::to_bits(x)
+    }
+}
+
+pub fn float32_bits(x: f32) -> u32
+    ensures { λ r. ⌜ r ≡ Ieee.toBits binary32 x ⌝ }
+{
+    if x != x { 0x7fc0_0000 } else { f32::to_bits(x) }
 }
 
 // Whether x has the pattern `bits`. Any NaN matches any NaN's.

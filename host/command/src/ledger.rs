@@ -1,7 +1,7 @@
 //! The ledger of a recording: one session after another over the flags of a
-//! sound, a line for each picture.
+//! sound, a line and a card for each picture.
 
-use funnelivy::{sizes, End, Reading, Refusal, Report, Session, Work};
+use funnelivy::{sizes, Card, End, Reading, Refusal, Report, Session, Work};
 
 /// Longest flag store of a session here: 25 minutes. A search that fills it
 /// goes on in a new session that begins a window earlier.
@@ -17,6 +17,16 @@ pub struct Picture {
     pub report: Option<Report>,
 }
 
+/// A picture of the ledger.
+#[derive(Clone, Copy, Debug, PartialEq)]
+pub struct Found {
+    /// The flag of the sound at which the picture's session began.
+    pub begun: usize,
+    pub picture: Picture,
+    /// The card of that session.
+    pub card: Card,
+}
+
 /// How a ledger is kept: by a machine's own count and blocks.
 #[derive(Clone, Copy, Debug)]
 pub struct Keeping {
@@ -30,7 +40,7 @@ pub struct Keeping {
 /// Where a session ended, in flags of the sound, and what it gave.
 #[derive(Clone, Copy, Debug, PartialEq)]
 struct Ended {
-    reading: Option<Reading>,
+    end: Option<(Reading, Card)>,
     taken: usize,
 }
 
@@ -53,13 +63,13 @@ fn run(
         at += usize::try_from(taken).unwrap_or(0);
         if let Ok(reading) = session.read() {
             return Ok(Ended {
-                reading: Some(reading),
+                end: Some((reading, session.card()?)),
                 taken: at - first,
             });
         }
     }
     Ok(Ended {
-        reading: None,
+        end: None,
         taken: at - first,
     })
 }
@@ -74,7 +84,7 @@ pub fn pictures(
     flags: &[u8],
     sound: &[f32],
     first: usize,
-) -> Result<Vec<(usize, Picture)>, Refusal> {
+) -> Result<Vec<Found>, Refusal> {
     let sizes = sizes(keeping.mode)?;
     let (window, picture) = (as_count(sizes.window), as_count(sizes.picture));
     let mut work = Work::new();
@@ -83,41 +93,52 @@ pub fn pictures(
     while at + window <= flags.len() {
         let capacity = (flags.len() - at).clamp(window + picture, MOST_FLAGS);
         let ended = run(keeping, flags, sound, at, capacity, &mut work)?;
+        let Some((reading, card)) = ended.end else {
+            break;
+        };
         let begun = at;
-        match ended.reading.map(|r| r.end) {
-            Some(End::Reported {
+        match reading.end {
+            End::Reported {
                 start,
                 start_quality,
                 report,
-            }) => {
-                let one = Picture {
+            } => {
+                let picture = Picture {
                     start,
                     start_quality,
                     report: Some(report),
                 };
-                found.push((begun, one));
+                found.push(Found {
+                    begun,
+                    picture,
+                    card,
+                });
                 at += ended.taken;
             }
             // Nothing yet: the last window may hold a picture's first lines.
-            Some(End::Unfound) if at + ended.taken < flags.len() => at += ended.taken - window,
+            End::Unfound if at + ended.taken < flags.len() => at += ended.taken - window,
             // Full before the picture was: again, from the picture on.
-            Some(End::CutShort { start, .. }) if at + ended.taken < flags.len() => {
+            End::CutShort { start, .. } if at + ended.taken < flags.len() => {
                 let flag = as_count((start - keeping.anchor) / 4);
                 at = flag.saturating_sub(window / 4).max(at + 1);
             }
-            Some(End::CutShort {
+            End::CutShort {
                 start,
                 start_quality,
-            }) => {
-                let one = Picture {
+            } => {
+                let picture = Picture {
                     start,
                     start_quality,
                     report: None,
                 };
-                found.push((begun, one));
+                found.push(Found {
+                    begun,
+                    picture,
+                    card,
+                });
                 break;
             }
-            Some(End::Unfound) | None => break,
+            End::Unfound => break,
         }
     }
     Ok(found)
@@ -125,4 +146,57 @@ pub fn pictures(
 
 fn as_count(n: u64) -> usize {
     usize::try_from(n).unwrap_or(usize::MAX)
+}
+
+#[cfg(test)]
+mod tests {
+    use super::*;
+
+    const ROBOT_8_BW: u8 = 8;
+
+    /// Flags of a sound with a picture of Robot 8 B/W from each of these on.
+    fn heard(flags: usize, pictures: &[usize]) -> Vec<u8> {
+        let mut heard = vec![0; flags];
+        for first in pictures {
+            for line in 0..120 {
+                // A line of 66.9 ms is 184.393125 flags.
+                let from = first + line * 184_393_125 / 1_000_000;
+                let to = (from + 19).min(flags);
+                heard[from.min(to)..to].fill(1);
+            }
+        }
+        heard
+    }
+
+    #[test]
+    fn each_picture_has_the_card_of_its_session() {
+        let flags = heard(85_000, &[500, 30_000, 70_000]);
+        let sound = vec![0.0; 4 * flags.len() + 4];
+        let keeping = Keeping {
+            mode: ROBOT_8_BW,
+            anchor: 1_000_003,
+            block: 64,
+        };
+        let found = pictures(&keeping, &flags, &sound, 0).unwrap();
+        let ends: Vec<u8> = found.iter().map(|f| f.card.end).collect();
+        assert_eq!(ends, [0, 0, 2]);
+        for Found { picture, card, .. } in found {
+            assert_eq!(card.mode, ROBOT_8_BW);
+            let of_card = match card.reading().unwrap().end {
+                End::Reported {
+                    start,
+                    start_quality,
+                    report,
+                } => (start, start_quality, Some(report)),
+                End::CutShort {
+                    start,
+                    start_quality,
+                } => (start, start_quality, None),
+                End::Unfound => panic!("no picture"),
+            };
+            let of_line = (picture.start, picture.start_quality, picture.report);
+            assert_eq!(of_card, of_line);
+            assert_eq!(Card::read(&card.to_bytes().unwrap()), Ok(card));
+        }
+    }
 }

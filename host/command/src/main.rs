@@ -1,15 +1,18 @@
 //! The command `funnelivy`.
 
+mod cards;
 mod flags;
 mod ledger;
 mod modes;
 mod synth;
 mod wav;
 
+use cards::Appending;
 use clap::{Parser, Subcommand};
 use flags::Prober;
 use funnelivy::machine::Port;
-use ledger::{pictures, Keeping, Picture};
+use funnelivy::Report;
+use ledger::{pictures, Found, Keeping, Picture};
 use modes::{mode_by_name, ModeTiming, MODE_NAMES};
 use std::io::{IsTerminal, Write};
 use std::path::{Path, PathBuf};
@@ -31,9 +34,10 @@ enum Command {
     /// Make each call of recordings again and print the answers that differ
     ///
     /// For each answer that differs: file, line, the answer recorded and the
-    /// one got. The last line is `N passed, M failed`; the status is 0 if M is 0.
+    /// one got. A line of version 2 whose call is not there yet is left out, and
+    /// said to be. The last line is `N passed, M failed`; the status is 0 if M is 0.
     Replay {
-        /// Recordings: text whose first line is `funnelivy recording 1`
+        /// Recordings: text whose first line is `funnelivy recording 1`, or 2
         #[arg(required = true)]
         files: Vec<PathBuf>,
     },
@@ -48,7 +52,9 @@ enum Command {
     /// A line for each picture of a mono WAV file at 11,025 Hz
     ///
     /// Where it starts, the true sampling rate, the slant (90° is upright), the
-    /// samples to skip from the start to the first line, and the qualities.
+    /// samples to skip from the start to the first line, and the qualities. With
+    /// --cards the card of each of these pictures, 56 bytes, is appended to a file,
+    /// in the same order.
     Ledger {
         /// A mono WAV file at 11,025 Hz
         file: PathBuf,
@@ -60,6 +66,19 @@ enum Command {
         /// Flags of a feed
         #[arg(long, default_value_t = 64, value_parser = clap::value_parser!(u32).range(1..))]
         block: u32,
+        /// Append the 56 bytes of each picture's card to this file of cards, which
+        /// is made if it is missing
+        #[arg(long, value_name = "FILE")]
+        cards: Option<PathBuf>,
+    },
+    /// Print the ledger cards of a file, a line each
+    ///
+    /// Mode, end, flags taken, evaluations, start, start quality, rate, slant, skip
+    /// and image quality; what the card's end lacks is left out. A card that is
+    /// refused is named with its number and the cause; the status is then 2.
+    Cards {
+        /// Cards of 56 bytes, one behind the other, as `ledger --cards` writes them
+        file: PathBuf,
     },
     /// Primary and standby side by side: whether their ledgers agree
     ///
@@ -140,7 +159,16 @@ fn run(command: Command) -> Result<bool, Trouble> {
             mode,
             anchor,
             block,
-        } => print_pictures(&file, mode, anchor, block),
+            cards,
+        } => {
+            let keeping = Keeping {
+                mode,
+                anchor,
+                block: block as usize,
+            };
+            print_pictures(&file, &keeping, cards.as_deref())
+        }
+        Command::Cards { file } => cards::print(&file).map(|()| true),
         Command::Takeover { file, mode, at } => takeover(&file, mode, at),
         Command::Synthesise {
             file,
@@ -182,44 +210,47 @@ fn line(number: usize, picture: &Picture) -> String {
     );
     match picture.report {
         None => format!("{begin}; the sound ends before the picture"),
-        Some(r) => format!(
-            "{begin}, rate {:.3} Hz, slant {}, skip {}, quality {:.3}",
-            r.rate,
-            r.slant
-                .map_or_else(|| "none".to_owned(), |d| format!("{d:.1}°")),
-            r.skip,
-            r.quality
-        ),
+        Some(r) => format!("{begin}, {}", report_in_words(&r)),
     }
 }
 
-fn print_ledger(title: &str, found: &[(usize, Picture)]) {
+fn report_in_words(r: &Report) -> String {
+    let slant = r
+        .slant
+        .map_or_else(|| "none".to_owned(), |d| format!("{d:.1}°"));
+    format!(
+        "rate {:.3} Hz, slant {slant}, skip {}, quality {:.3}",
+        r.rate, r.skip, r.quality
+    )
+}
+
+fn print_ledger(title: &str, found: &[Found]) {
     println!("{title}");
     if found.is_empty() {
         println!("  no picture");
     }
-    for (number, (_, picture)) in found.iter().enumerate() {
-        println!("  {}", line(number + 1, picture));
+    for (one, number) in found.iter().zip(1..) {
+        println!("  {}", line(number, &one.picture));
     }
 }
 
-fn print_pictures(file: &Path, mode: u8, anchor: u64, block: u32) -> Result<bool, Trouble> {
+fn print_pictures(file: &Path, keeping: &Keeping, cards: Option<&Path>) -> Result<bool, Trouble> {
+    // Before the sound is heard, which takes its time.
+    let cards = cards.map(Appending::open).transpose()?;
     let heard = hear(file)?;
-    let keeping = Keeping {
-        mode,
-        anchor,
-        block: block as usize,
-    };
-    let found = pictures(&keeping, &heard.flags, &heard.sound, 0).map_err(|r| r.to_string())?;
+    let found = pictures(keeping, &heard.flags, &heard.sound, 0).map_err(|r| r.to_string())?;
     print_ledger(
         &format!(
             "{}: {} samples as {}",
             file.display(),
             heard.sound.len(),
-            MODE_NAMES[usize::from(mode)]
+            MODE_NAMES[usize::from(keeping.mode)]
         ),
         &found,
     );
+    if let Some(mut cards) = cards {
+        cards.append(found.iter().map(|one| one.card))?;
+    }
     Ok(!found.is_empty())
 }
 
@@ -243,10 +274,10 @@ fn takeover(file: &Path, mode: u8, at: u64) -> Result<bool, Trouble> {
     let whole = pictures(&primary, &heard.flags, &heard.sound, 0).map_err(words)?;
     // The primary's session at that sample: the last one begun by then.
     let mut first = 0;
-    for (begun, picture) in &whole {
-        let end = picture.start - PRIMARY_ANCHOR;
-        if 4 * (*begun as u64) <= at {
-            first = *begun;
+    for one in &whole {
+        let end = one.picture.start - PRIMARY_ANCHOR;
+        if 4 * (one.begun as u64) <= at {
+            first = one.begun;
         }
         if end > at {
             break;
@@ -262,10 +293,10 @@ fn takeover(file: &Path, mode: u8, at: u64) -> Result<bool, Trouble> {
     let offset = PRIMARY_ANCHOR + 4 * first as u64;
     let expected: Vec<Picture> = whole
         .iter()
-        .filter(|(begun, _)| *begun >= first)
-        .map(|(_, p)| Picture {
-            start: p.start - offset,
-            ..*p
+        .filter(|one| one.begun >= first)
+        .map(|one| Picture {
+            start: one.picture.start - offset,
+            ..one.picture
         })
         .collect();
     print_ledger(
@@ -282,7 +313,7 @@ fn takeover(file: &Path, mode: u8, at: u64) -> Result<bool, Trouble> {
     );
     let agree = taken_over
         .iter()
-        .map(|(_, p)| *p)
+        .map(|one| one.picture)
         .eq(expected.iter().copied());
     println!(
         "the ledgers {}",

@@ -3,8 +3,8 @@
 //! call is made in the caller's environment.
 
 use crate::ffi::{
-    self, RawColumns, RawDecision, RawFed, RawOpened, RawQuality, RawReading, RawReport,
-    RawSession, RawSizes, RawWindow,
+    self, RawCard, RawCardAnswer, RawColumns, RawDecision, RawFed, RawOpened, RawQuality,
+    RawReading, RawReport, RawSession, RawSizes, RawWindow,
 };
 use crate::float_env::with_default;
 use crate::Work;
@@ -131,4 +131,20 @@ pub fn feed(
 pub fn read(session: RawSession) -> RawReading {
     // SAFETY: a struct of numbers by value.
     with_default(|| unsafe { ffi::funnelivy_read(session) })
+}
+
+pub fn write_card(card: RawCard, out: &mut [u8]) -> u32 {
+    // SAFETY: the pointer and length are those of a slice that outlives the call
+    // and is borrowed mutably.
+    with_default(|| unsafe { ffi::funnelivy_write_card(card, out.as_mut_ptr(), out.len()) })
+}
+
+pub fn read_card(bytes: &[u8]) -> RawCardAnswer {
+    // SAFETY: the pointer and length are those of a slice that outlives the call.
+    with_default(|| unsafe { ffi::funnelivy_read_card(bytes.as_ptr(), bytes.len()) })
+}
+
+pub fn session_card(session: RawSession) -> RawCardAnswer {
+    // SAFETY: a struct of numbers by value.
+    with_default(|| unsafe { ffi::funnelivy_session_card(session) })
 }

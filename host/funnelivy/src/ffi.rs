@@ -103,6 +103,28 @@ pub struct RawReading {
     pub has_slant: u32,
 }
 
+#[repr(C)]
+#[derive(Clone, Copy, Debug, PartialEq)]
+pub struct RawCard {
+    pub taken: u64,
+    pub evaluations: u64,
+    pub start: u64,
+    pub skip: i64,
+    pub rate: f64,
+    pub start_quality: f32,
+    pub quality: f32,
+    pub mode: u8,
+    pub end: u8,
+    pub slant: u8,
+}
+
+#[repr(C)]
+#[derive(Clone, Copy, Debug, PartialEq)]
+pub struct RawCardAnswer {
+    pub refusal: u32,
+    pub card: RawCard,
+}
+
 // Each pointer must be that of a slice of the length beside it, or null where
 // that length is 0; what is written must not overlap any other argument.
 extern "C" {
@@ -164,4 +186,7 @@ extern "C" {
         samples_len: usize,
     ) -> RawFed;
     pub fn funnelivy_read(session: RawSession) -> RawReading;
+    pub fn funnelivy_write_card(card: RawCard, out: *mut u8, out_len: usize) -> u32;
+    pub fn funnelivy_read_card(bytes: *const u8, bytes_len: usize) -> RawCardAnswer;
+    pub fn funnelivy_session_card(session: RawSession) -> RawCardAnswer;
 }

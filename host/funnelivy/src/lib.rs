@@ -1,7 +1,7 @@
 //! Funnelivy for Rust hosts: safe functions over the proved static library.
 //!
-//! [`Session`] owns the memory that a session is lent. The functions beside it
-//! are the single calls. A call that does not meet its conditions answers a
+//! [`Session`] owns the memory that a session is lent, and [`Card`] is an ended
+//! one as the ledger keeps it. The functions beside them are the single calls. A call that does not meet its conditions answers a
 //! [`Refusal`] and changes nothing. Every call is made in the default float
 //! environment, whatever the caller's is, and leaves the caller's as it was.
 
@@ -9,6 +9,7 @@
 
 #[allow(unsafe_code)]
 mod calls;
+mod card;
 pub mod ffi;
 #[allow(unsafe_code)]
 pub mod float_env;
@@ -16,6 +17,7 @@ pub mod machine;
 mod refusal;
 mod session;
 
+pub use card::{Card, CARD_BYTES, NO_SLANT};
 pub use recording::{End, Report};
 pub use refusal::Refusal;
 pub use session::{has_parity_tone, sample_store_length, Reading, Session, Work, MOST_FLAGS};

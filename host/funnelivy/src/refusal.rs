@@ -22,6 +22,9 @@ impl Refusal {
             9 => "a count list, a count, a width, n or lines is outside its limits",
             10 => "the session has ended",
             11 => "the session has not ended",
+            12 => "a card is not 56 bytes long",
+            13 => "the card's mark is not SSR, or its version is not 1",
+            14 => "a field of the card is outside its limits, or filled though the card's end has none",
             _ => "unknown cause",
         }
     }
@@ -41,5 +44,21 @@ pub(crate) fn check(number: u32) -> Result<(), Refusal> {
         Ok(())
     } else {
         Err(Refusal(number))
+    }
+}
+
+#[cfg(test)]
+mod tests {
+    use super::Refusal;
+
+    #[test]
+    fn every_number_has_words() {
+        let words = |n| Refusal(n).cause();
+        for n in 1..=14 {
+            assert_ne!(words(n), "unknown cause", "{n}");
+        }
+        for n in [0, 15, u32::MAX] {
+            assert_eq!(words(n), "unknown cause", "{n}");
+        }
     }
 }

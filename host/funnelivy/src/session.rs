@@ -2,7 +2,7 @@
 
 use crate::ffi::RawSession;
 use crate::refusal::check;
-use crate::{calls, End, Refusal, Report};
+use crate::{calls, Card, End, Refusal, Report};
 
 /// Bytes of the drawn image and cells of the vote counts.
 const IMAGE_BYTES: usize = 441_000;
@@ -211,6 +211,16 @@ impl Session {
             taken: r.taken,
             evaluations: r.evaluations,
         })
+    }
+
+    /// The session's ledger card.
+    ///
+    /// # Errors
+    /// Refusal 11 while it has not ended.
+    pub fn card(&self) -> Result<Card, Refusal> {
+        let r = calls::session_card(self.raw);
+        check(r.refusal)?;
+        Ok(Card::of(&r.card))
     }
 
     /// Flags taken so far.

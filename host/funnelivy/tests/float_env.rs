@@ -3,7 +3,8 @@
 //! does depend on it.
 
 use funnelivy::float_env::{mxcsr, with, DEFAULT};
-use funnelivy::{ffi, has_sync, sizes, sync_quality, End, Reading, Refusal, Session, Work};
+use funnelivy::{ffi, has_sync, sizes, sync_quality};
+use funnelivy::{Card, End, Reading, Refusal, Session, Work};
 use std::hint::black_box;
 
 /// Subnormals taken for 0 and made 0, as code linked with `-ffast-math` runs.
@@ -103,7 +104,11 @@ fn picture(flags: usize) -> (Vec<u8>, Vec<f32>) {
 }
 
 /// A session over the picture, through the library.
-fn through_the_library(control: u32, flags: &[u8], sound: &[f32]) -> Result<Reading, Refusal> {
+fn through_the_library(
+    control: u32,
+    flags: &[u8],
+    sound: &[f32],
+) -> Result<(Reading, Card), Refusal> {
     let mut work = Work::new();
     let (first, rest) = sound.split_at(4);
     let mut session = under(control, || Session::open(MODE, 0, flags.len(), first))?;
@@ -112,7 +117,8 @@ fn through_the_library(control: u32, flags: &[u8], sound: &[f32]) -> Result<Read
             break;
         }
     }
-    under(control, || session.read())
+    let card = under(control, || session.card())?;
+    under(control, || session.read()).map(|reading| (reading, card))
 }
 
 /// The same through the C interface: the start.
@@ -171,10 +177,60 @@ fn subnormal_tones_tell_the_parity_of_a_line() {
     let raw = |control| through_the_c_interface(control, &flags, &sound);
     assert_eq!((raw(DEFAULT), raw(FLUSHING)), (947, 2_600));
     let given = through_the_library(DEFAULT, &flags, &sound).unwrap();
-    assert!(matches!(given.end, End::Reported { start: 947, .. }));
+    assert!(matches!(given.0.end, End::Reported { start: 947, .. }));
+    assert_eq!(given.1.reading(), Some(given.0));
     for control in environments() {
         let again = through_the_library(control, &flags, &sound);
         assert_eq!(again, Ok(given), "{control:x}");
+    }
+}
+
+/// A reported card with this image quality, and else with the smallest floats.
+fn faint_card(quality: u32) -> Card {
+    Card {
+        mode: MODE,
+        end: 0,
+        taken: 1,
+        evaluations: 1,
+        start: 1,
+        start_quality: f32::from_bits(1),
+        rate: f64::from_bits(1),
+        slant: 120,
+        skip: 1,
+        quality: f32::from_bits(quality),
+    }
+}
+
+#[test]
+fn a_quality_just_below_0_is_not_taken_for_0() {
+    let (above, below) = (faint_card(1), faint_card(0x8000_0001));
+    let raw = |control| {
+        let card = ffi::RawCard {
+            taken: below.taken,
+            evaluations: below.evaluations,
+            start: below.start,
+            skip: below.skip,
+            rate: below.rate,
+            start_quality: below.start_quality,
+            quality: below.quality,
+            mode: below.mode,
+            end: below.end,
+            slant: below.slant,
+        };
+        let mut out = [0_u8; 56];
+        // SAFETY: the pointer and length are those of the array.
+        let call = || unsafe { ffi::funnelivy_write_card(card, out.as_mut_ptr(), out.len()) };
+        under(control, call)
+    };
+    assert_eq!((raw(DEFAULT), raw(FLUSHING)), (14, 0));
+    let bytes = above.to_bytes().unwrap();
+    let mut negative = bytes;
+    negative[55] = 0x80;
+    for control in environments() {
+        assert_eq!(under(control, || above.to_bytes()), Ok(bytes));
+        assert_eq!(under(control, || below.to_bytes()), Err(Refusal(14)));
+        assert_eq!(under(control, || Card::read(&bytes)), Ok(above));
+        assert_eq!(under(control, || Card::read(&negative)), Err(Refusal(14)));
     }
 }
 

@@ -1,8 +1,8 @@
 //! The recordings in host/recordings (known answers, a refusal of each cause,
-//! and what the Rust answered), on the port.
+//! what the Rust answered, and cards), on the port.
 
 use funnelivy::machine::Port;
-use recording::{parse, replay, Source};
+use recording::{parse, record, replay, Source, Version};
 use std::path::{Path, PathBuf};
 
 fn recordings() -> (PathBuf, Vec<PathBuf>) {
@@ -29,6 +29,23 @@ fn recordings_replay_without_a_difference() {
         assert_eq!((outcome.failed, outcome.left_out), (0, 0), "{name}");
         assert_eq!(outcome.passed, recording.entries.len(), "{name}");
     }
+}
+
+#[test]
+fn recordings_are_recorded_again_in_their_version() {
+    let (folder, files) = recordings();
+    let mut second = Vec::new();
+    for file in files {
+        let text = std::fs::read_to_string(&file).unwrap();
+        let recording = parse(&text, Source { folder: &folder }, true).unwrap();
+        let again = record(&recording, &mut Port::default());
+        let calls = text.lines().filter(|line| !line.starts_with('#'));
+        assert!(again.text.lines().eq(calls), "{}", file.display());
+        if recording.version == Version::Two {
+            second.push(file.file_name().unwrap().to_owned());
+        }
+    }
+    assert_eq!(second, ["cards.txt"]);
 }
 
 #[test]

@@ -2,11 +2,12 @@
 //! answers are those of the default one, and the environment stays as it was.
 //! Counted is how often the C interface itself answers otherwise there.
 
+use crate::card;
 use crate::rng::Rng;
 use crate::tally::Tally;
 use crate::{ensure, Outcome};
 use funnelivy::float_env::{mxcsr, with, DEFAULT};
-use funnelivy::{ffi, Reading, Refusal, Session, Work};
+use funnelivy::{ffi, Card, Reading, Refusal, Session, Work, CARD_BYTES};
 use std::fmt::Debug;
 use std::hint::black_box;
 
@@ -158,8 +159,43 @@ fn find_sync(rng: &mut Rng, tally: &mut Tally) -> Outcome {
     )
 }
 
+/// A card that is often refused, and its bytes.
+fn card(rng: &mut Rng, tally: &mut Tally) -> Outcome {
+    let raw = card::faint(rng);
+    let bytes = card::encoded(&raw);
+    let own = Card {
+        mode: raw.mode,
+        end: raw.end,
+        taken: raw.taken,
+        evaluations: raw.evaluations,
+        start: raw.start,
+        start_quality: raw.start_quality,
+        rate: raw.rate,
+        slant: raw.slant,
+        skip: raw.skip,
+        quality: raw.quality,
+    };
+    let mut out = [0; CARD_BYTES];
+    compare(
+        rng,
+        tally,
+        "float environment: another card",
+        || own.to_bytes(),
+        // SAFETY: pointer and length are those of the array.
+        || unsafe { ffi::funnelivy_write_card(raw, out.as_mut_ptr(), CARD_BYTES) },
+    )?;
+    compare(
+        rng,
+        tally,
+        "float environment: another card",
+        || Card::read(&bytes),
+        // SAFETY: pointer and length are those of the bytes.
+        || unsafe { ffi::funnelivy_read_card(bytes.as_ptr(), bytes.len()) },
+    )
+}
+
 /// Feeds of a session with this MXCSR, through the library and to its end.
-fn fed(bits: u32, mode: u8, flags: &[u8], samples: &[f32]) -> Result<Reading, Refusal> {
+fn fed(bits: u32, mode: u8, flags: &[u8], samples: &[f32]) -> Result<(Reading, Card), Refusal> {
     let mut work = Work::new();
     let mut session = under(bits, || Session::open(mode, 0, flags.len(), &samples[..4])).0?;
     for (some, with_them) in flags.chunks(600).zip(samples[4..].chunks(2_400)) {
@@ -168,7 +204,10 @@ fn fed(bits: u32, mode: u8, flags: &[u8], samples: &[f32]) -> Result<Reading, Re
             break;
         }
     }
-    under(bits, || session.read()).0
+    let card = under(bits, || session.card()).0?;
+    under(bits, || session.read())
+        .0
+        .map(|reading| (reading, card))
 }
 
 /// A session whose samples, and with them any parity tone, are subnormal.
@@ -196,6 +235,7 @@ pub fn all(rng: &mut Rng, tally: &mut Tally) -> Outcome {
         quality(rng, tally)?;
         sync_window(rng, tally)?;
         has_sync(rng, tally)?;
+        card(rng, tally)?;
     }
     find_sync(rng, tally)?;
     if rng.once_in(8) {

@@ -8,6 +8,7 @@
 //! Prints how often each call was answered and refused with each number; one
 //! that was never reached is named, and the status is 1.
 
+mod card;
 mod feed;
 mod float_env;
 mod lent;
@@ -57,6 +58,8 @@ fn round(rng: &mut Rng, tally: &mut Tally, sessions: &mut [Live]) -> Outcome {
         single::edge(rng, tally)?;
         single::sync_window(rng, tally)?;
         single::has_sync(rng, tally)?;
+        card::bytes(rng, tally)?;
+        card::fields(rng, tally)?;
     }
     single::find_sync(rng, tally)?;
     live::wild(rng, tally)?;
@@ -66,6 +69,8 @@ fn round(rng: &mut Rng, tally: &mut Tally, sessions: &mut [Live]) -> Outcome {
     }
     feed::own(rng, tally, &mut sessions[a])?;
     record::read(tally, sessions[a].record)?;
+    card::own(rng, tally, &sessions[a])?;
+    card::foreign(rng, tally, &sessions[a])?;
     feed::own_wild(rng, tally, &sessions[a])?;
     feed::foreign(rng, tally, &sessions[a], &sessions[b])
 }

@@ -4,7 +4,7 @@ use std::collections::BTreeMap;
 use std::fmt::Write as _;
 
 /// Each call with the numbers that it can give, 0 meaning an answer.
-const CALLS: [(&str, &[u32]); 11] = [
+const CALLS: [(&str, &[u32]); 14] = [
     ("sizes", &[0, 1]),
     ("columns", &[0, 1, 9]),
     ("window", &[0, 9]),
@@ -16,10 +16,13 @@ const CALLS: [(&str, &[u32]); 11] = [
     ("open", &[0, 1, 4, 5, 6, 8]),
     ("feed", &[0, 5, 6, 7, 8, 10]),
     ("read", &[0, 11]),
+    ("write_card", &[0, 12, 14]),
+    ("read_card", &[0, 12, 13, 14]),
+    ("session_card", &[0, 11]),
 ];
 
 /// What must be reached beside the numbers.
-const CASES: [&str; 9] = [
+const CASES: [&str; 21] = [
     "has_sync: yes",
     "has_sync: no",
     "read: reported",
@@ -29,15 +32,28 @@ const CASES: [&str; 9] = [
     "feed: a record with a field changed",
     "feed: another session's record",
     "feed: a record not its own, some flags taken",
+    "write_card: reported",
+    "write_card: unfound",
+    "write_card: cut short",
+    "read_card: reported",
+    "read_card: unfound",
+    "read_card: cut short",
+    "read_card: a card with bytes changed, still one",
+    "session_card: reported",
+    "session_card: unfound",
+    "session_card: cut short",
+    "session_card: of no session, with a slant of no index",
+    "session_card: of no session, and refused by the writer",
 ];
 
 /// What must be reached where MXCSR is followed.
-const ENVIRONMENTS: [&str; 6] = [
+const ENVIRONMENTS: [&str; 7] = [
     "float environment: other sizes or columns",
     "float environment: another quality",
     "float environment: another window",
     "float environment: another decision",
     "float environment: another report",
+    "float environment: another card",
     "float environment: a session to its end",
 ];
 

@@ -28,8 +28,8 @@ pub fn replay_files(
         };
         let recording = parse(&text(file)?, source, true).map_err(|e| format!("{name}: {e}"))?;
         let outcome = replay(&name, &recording, machine().as_mut());
-        for difference in &outcome.differences {
-            println!("{difference}");
+        for line in outcome.notes.iter().chain(&outcome.differences) {
+            println!("{line}");
         }
         passed += outcome.passed;
         failed += outcome.failed;
@@ -52,8 +52,12 @@ pub fn record_file(file: &Path, machine: &mut dyn Machine) -> Result<(), String>
     };
     let recording =
         parse(&text(file)?, source, false).map_err(|e| format!("{}: {e}", file.display()))?;
-    let (text, left_out) = record(&recording, machine);
-    print!("{text}");
+    let recorded = record(&recording, machine);
+    print!("{}", recorded.text);
+    for note in &recorded.notes {
+        eprintln!("{}: {note}", file.display());
+    }
+    let left_out = recorded.left_out;
     if left_out > 0 {
         eprintln!("{left_out} calls left out: this machine does not have them");
     }

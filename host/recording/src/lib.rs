@@ -1,23 +1,48 @@
 //! Recordings: calls and their answers as text, one to a line.
 //!
 //! A machine's answers are recorded once and made again on another machine.
-//! The first line is `funnelivy recording 1`; after it each line is empty, a
-//! comment that starts with `#`, or `CALL = ANSWER`. Nothing is guessed: a
-//! line that is anything else is an [`Error`] with its number.
+//! The first line is `funnelivy recording 1` or `funnelivy recording 2`; after
+//! it each line is empty, a comment that starts with `#`, or `CALL = ANSWER`.
+//! Nothing is guessed: a line that is anything else is an [`Error`] with its
+//! number. Version 2 has more calls; a line with one of them that is not here yet
+//! is left out, and said to be.
 
 pub mod commands;
 mod list;
 mod parse;
 mod run;
 
-pub use list::{read_floats, read_numbers, write_floats, write_numbers, Source, MOST_ELEMENTS};
+pub use list::{
+    read_bytes, read_floats, read_numbers, write_bytes, write_floats, write_numbers, Source,
+    MOST_ELEMENTS,
+};
 pub use parse::{parse, Entry, Recording};
-pub use run::{record, replay, Machine, Outcome};
+pub use run::{record, replay, Machine, Outcome, Recorded};
 
 use std::fmt;
 
-/// The first line of every recording.
+/// The first line of a recording of version 1.
 pub const HEADER: &str = "funnelivy recording 1";
+
+/// Which calls a recording may have.
+#[derive(Clone, Copy, Debug, PartialEq, Eq, PartialOrd, Ord)]
+pub enum Version {
+    /// Those of document 01.
+    One,
+    /// Those of document 02 too.
+    Two,
+}
+
+impl Version {
+    /// The first line of a recording of this version.
+    #[must_use]
+    pub fn header(self) -> &'static str {
+        match self {
+            Self::One => HEADER,
+            Self::Two => "funnelivy recording 2",
+        }
+    }
+}
 
 /// A length of lent memory: a number, or `*`, the length that is asked for.
 #[derive(Clone, Copy, Debug, PartialEq, Eq)]
@@ -98,6 +123,50 @@ pub enum Call {
     },
     /// Reads the session opened last.
     Read,
+    /// Writes a card into a buffer. `card1` in text.
+    WriteCard { buffer: Length, card: CardFields },
+    /// Reads a card's bytes. `uncard` in text.
+    ReadCard { bytes: Vec<u8> },
+    /// The card of the session opened last. `cardof` in text.
+    SessionCard,
+    /// A call of version 2 that is not here yet, or has an answer that is not.
+    Later {
+        text: String,
+        /// What is not here, in words.
+        missing: String,
+        /// Whether the session opened last is another one after it, or stands
+        /// elsewhere.
+        session: bool,
+    },
+}
+
+impl Call {
+    /// Whether it is a call on the session opened last.
+    #[must_use]
+    pub fn is_on_session(&self) -> bool {
+        matches!(self, Self::Feed { .. } | Self::Read | Self::SessionCard)
+    }
+}
+
+/// The fields of a card in the order of its bytes, floats as bits, so that a NaN
+/// and a zero's sign can be written.
+#[derive(Clone, Copy, Debug, PartialEq, Eq)]
+pub struct CardFields {
+    pub mode: u8,
+    /// 0 reported, 1 unfound, 2 cut short.
+    pub end: u8,
+    pub taken: u64,
+    pub evaluations: u64,
+    pub start: u64,
+    /// An f32.
+    pub start_quality: u32,
+    /// An f64.
+    pub rate: u64,
+    /// The slant index, 255 for none.
+    pub slant: u8,
+    pub skip: i64,
+    /// An f32.
+    pub quality: u32,
 }
 
 /// What the first P flags of a picture give.
@@ -149,6 +218,8 @@ pub enum Answer {
         taken: u64,
         evaluations: u64,
     },
+    Bytes(Vec<u8>),
+    Card(CardFields),
 }
 
 fn f64_bits(x: f64) -> String {
@@ -168,6 +239,25 @@ impl fmt::Display for Report {
             f64_bits(self.rate),
             self.skip,
             f32_bits(self.quality)
+        )
+    }
+}
+
+impl fmt::Display for CardFields {
+    fn fmt(&self, f: &mut fmt::Formatter<'_>) -> fmt::Result {
+        write!(
+            f,
+            "{} {} {} {} {} {:08x} {:016x} {} {} {:08x}",
+            self.mode,
+            self.end,
+            self.taken,
+            self.evaluations,
+            self.start,
+            self.start_quality,
+            self.rate,
+            self.slant,
+            self.skip,
+            self.quality
         )
     }
 }
@@ -208,6 +298,8 @@ impl fmt::Display for Answer {
                     f32_bits(*start_quality)
                 ),
             },
+            Self::Bytes(bytes) => f.write_str(&write_bytes(bytes)),
+            Self::Card(card) => card.fmt(f),
         }
     }
 }
@@ -268,6 +360,10 @@ impl fmt::Display for Call {
                 write_floats(samples)
             ),
             Self::Read => f.write_str("read"),
+            Self::WriteCard { buffer, card } => write!(f, "card1 {buffer} {card}"),
+            Self::ReadCard { bytes } => write!(f, "uncard {}", write_bytes(bytes)),
+            Self::SessionCard => f.write_str("cardof"),
+            Self::Later { text, .. } => f.write_str(text),
         }
     }
 }

@@ -1,5 +1,7 @@
-//! Lists: `-`, runs as `3*0,5,1`, or `@NAME`, a file beside the recording.
+//! Lists: `-`, runs as `3*0,5,1`, or `@NAME`, a file beside the recording. And
+//! bytes: `-`, or two hexadecimal digits each.
 
+use std::fmt::Write as _;
 use std::path::Path;
 
 /// Longest list that runs may stand for: the samples of a flag list that is one
@@ -98,6 +100,23 @@ pub fn read_floats(text: &str, source: Source<'_>) -> Result<Vec<f32>, String> {
         .and_then(unrolled)
 }
 
+/// Bytes by two hexadecimal digits each.
+///
+/// # Errors
+/// What was expected instead, in words.
+pub fn read_bytes(text: &str) -> Result<Vec<u8>, String> {
+    if text == "-" {
+        return Ok(Vec::new());
+    }
+    let pair = |b: &[u8]| {
+        let digits = bits(std::str::from_utf8(b).ok()?, 2)?;
+        u8::try_from(digits).ok()
+    };
+    let bytes = text.as_bytes().chunks(2).map(pair).collect();
+    let some = if text.is_empty() { None } else { bytes };
+    some.ok_or_else(|| format!("bytes by 2 hexadecimal digits each, or `-`, instead of `{text}`"))
+}
+
 fn written<T: PartialEq>(values: &[T], element: impl Fn(&T) -> String) -> String {
     if values.is_empty() {
         return "-".to_owned();
@@ -131,4 +150,16 @@ pub fn write_numbers<T: PartialEq + ToString>(values: &[T]) -> String {
 pub fn write_floats(values: &[f32]) -> String {
     let bits: Vec<u32> = values.iter().map(|v| v.to_bits()).collect();
     written(&bits, |b| format!("{b:08x}"))
+}
+
+/// Bytes by two hexadecimal digits each.
+#[must_use]
+pub fn write_bytes(bytes: &[u8]) -> String {
+    if bytes.is_empty() {
+        return "-".to_owned();
+    }
+    bytes.iter().fold(String::new(), |mut text, b| {
+        let _ = write!(text, "{b:02x}");
+        text
+    })
 }

@@ -1,7 +1,28 @@
 //! The text of a recording, line by line.
 
 use crate::list::{bits, decimal};
-use crate::{read_floats, read_numbers, Answer, Call, End, Error, Length, Report, Source, HEADER};
+use crate::{
+    read_bytes, read_floats, read_numbers, Answer, Call, CardFields, End, Error, Length, Report,
+    Source, Version,
+};
+
+/// The calls of version 2 that are not here yet, and whether the session opened
+/// last is another one after them, or stands elsewhere.
+const LATER: [(&str, bool); 13] = [
+    ("store", true),
+    ("judge", true),
+    ("pack", false),
+    ("unpack", false),
+    ("openring", true),
+    ("gauge", false),
+    ("holes", false),
+    ("openall", true),
+    ("checkcard", false),
+    ("card2", false),
+    ("cardof2", false),
+    ("to2", false),
+    ("to1", false),
+];
 
 /// A call and, where the line has one, its answer.
 #[derive(Clone, Debug, PartialEq)]
@@ -15,7 +36,15 @@ pub struct Entry {
 /// The calls of a recording in order.
 #[derive(Clone, Debug, PartialEq)]
 pub struct Recording {
+    pub version: Version,
     pub entries: Vec<Entry>,
+}
+
+/// The version that a first line says.
+fn version(line: &str) -> Result<Version, String> {
+    let all = [Version::One, Version::Two];
+    let said = all.into_iter().find(|v| v.header() == line);
+    said.ok_or_else(|| all.map(|v| format!("`{}`", v.header())).join(" or "))
 }
 
 /// Reads a recording. With `answers` each call must have one.
@@ -29,14 +58,10 @@ pub fn parse(text: &str, source: Source<'_>, answers: bool) -> Result<Recording,
             expected,
         }
     };
+    let mut lines = text.lines().enumerate();
+    let version = version(lines.next().map_or("", |(_, line)| line)).map_err(at(0))?;
     let mut entries = Vec::new();
-    for (number, line) in text.lines().enumerate() {
-        if number == 0 {
-            if line != HEADER {
-                return Err(at(0)(format!("`{HEADER}`")));
-            }
-            continue;
-        }
+    for (number, line) in lines {
         if line.is_empty() || line.starts_with('#') {
             continue;
         }
@@ -45,25 +70,69 @@ pub fn parse(text: &str, source: Source<'_>, answers: bool) -> Result<Recording,
             None if answers => return Err(at(number)("`CALL = ANSWER`".to_owned())),
             None => (line, None),
         };
-        let call = parse_call(call, source).map_err(at(number))?;
-        let answer = answer
-            .map(|a| parse_answer(&call, a, source))
-            .transpose()
-            .map_err(at(number))?;
+        let second = version == Version::Two;
+        let unknown = answer.and_then(|a| later_answer(call, a).filter(|_| second));
+        // Where answers are to be made, one of another form is as none.
+        let answer = answer.filter(|_| answers || unknown.is_none());
+        let later = later_call(call, answer)
+            .filter(|_| second)
+            .or(unknown.filter(|_| answers));
+        let (call, answer) = if let Some(call) = later {
+            (call, None)
+        } else {
+            let call = parse_call(version, call, source).map_err(at(number))?;
+            let answer = answer
+                .map(|a| parse_answer(&call, a, source))
+                .transpose()
+                .map_err(at(number))?;
+            (call, answer)
+        };
         entries.push(Entry {
             line: number + 1,
             call,
             answer,
         });
     }
-    if text.is_empty() {
-        return Err(at(0)(format!("`{HEADER}`")));
-    }
-    Ok(Recording { entries })
+    Ok(Recording { version, entries })
+}
+
+/// A call that is not here yet. A refused one changes no session.
+fn later_call(text: &str, answer: Option<&str>) -> Option<Call> {
+    let word = text.split(' ').next()?;
+    let (_, changes) = LATER.iter().find(|(name, _)| *name == word)?;
+    let refused = answer.is_some_and(|a| a.starts_with("refused "));
+    Some(Call::Later {
+        text: text.to_owned(),
+        missing: format!("`{word}`"),
+        session: *changes && !refused,
+    })
+}
+
+/// A call whose answer has the fields of a change that is not here yet: a count
+/// of windows, an origin, a mode, or what 66 bytes of a card hold.
+fn later_answer(text: &str, answer: &str) -> Option<Call> {
+    let (call, fields): (Vec<&str>, Vec<&str>) =
+        (text.split(' ').collect(), answer.split(' ').collect());
+    let more = match (call[..].first()?, fields[..].first()?) {
+        (&"window", _) => fields.len() == 3,
+        (&"read", &"reported") => fields.len() > 9,
+        (&"read", &"cutshort") => fields.len() > 5,
+        (&"uncard", _) => call.last()?.len() == 2 * 66 && answer != "refused 12",
+        _ => false,
+    };
+    more.then(|| Call::Later {
+        text: text.to_owned(),
+        missing: format!("such an answer of `{}`", call[0]),
+        session: false,
+    })
 }
 
 fn number(text: &str) -> Result<u64, String> {
     decimal(text).ok_or_else(|| format!("a decimal number instead of `{text}`"))
+}
+
+fn byte(text: &str) -> Result<u8, String> {
+    decimal(text).ok_or_else(|| format!("a decimal number up to 255 instead of `{text}`"))
 }
 
 fn signed(text: &str) -> Result<i64, String> {
@@ -94,8 +163,48 @@ fn single(text: &str) -> Result<f32, String> {
         .ok_or_else(|| format!("the 8 hexadecimal digits of an f32 instead of `{text}`"))
 }
 
-fn parse_call(text: &str, source: Source<'_>) -> Result<Call, String> {
+fn card(words: &[&str]) -> Result<CardFields, String> {
+    let [mode, end, taken, evaluations, start, start_quality, rate, slant, skip, quality] = words
+    else {
+        let words = words.join(" ");
+        return Err(format!("the ten fields of a card instead of `{words}`"));
+    };
+    Ok(CardFields {
+        mode: byte(mode)?,
+        end: byte(end)?,
+        taken: number(taken)?,
+        evaluations: number(evaluations)?,
+        start: number(start)?,
+        start_quality: single(start_quality)?.to_bits(),
+        rate: double(rate)?.to_bits(),
+        slant: byte(slant)?,
+        skip: signed(skip)?,
+        quality: single(quality)?.to_bits(),
+    })
+}
+
+/// A call of document 02.
+fn parse_second(words: &[&str]) -> Result<Option<Call>, String> {
+    Ok(Some(match words {
+        ["card1", buffer, fields @ ..] => Call::WriteCard {
+            buffer: length(buffer)?,
+            card: card(fields)?,
+        },
+        ["uncard", bytes] => Call::ReadCard {
+            bytes: read_bytes(bytes)?,
+        },
+        ["cardof"] => Call::SessionCard,
+        _ => return Ok(None),
+    }))
+}
+
+fn parse_call(version: Version, text: &str, source: Source<'_>) -> Result<Call, String> {
     let words: Vec<&str> = text.split(' ').collect();
+    if version == Version::Two {
+        if let Some(call) = parse_second(&words)? {
+            return Ok(call);
+        }
+    }
     Ok(match words[..] {
         ["columns", mode, n] => Call::Columns {
             mode: number(mode)?,
@@ -146,11 +255,15 @@ fn parse_call(text: &str, source: Source<'_>) -> Result<Call, String> {
         },
         ["read"] => Call::Read,
         _ => {
+            let more = match version {
+                Version::One => "feed or read",
+                Version::Two => "feed, read, card1, uncard or cardof",
+            };
             return Err(format!(
-                "a call (columns, window, quality, edge, find, fill, probe, open, feed or read) \
+                "a call (columns, window, quality, edge, find, fill, probe, open, {more}) \
                  with its arguments instead of `{}`",
                 words[0]
-            ))
+            ));
         }
     })
 }
@@ -181,6 +294,8 @@ fn parse_answer(call: &Call, text: &str, source: Source<'_>) -> Result<Answer, S
             taken: number(taken)?,
             evaluations: number(evaluations)?,
         },
+        (Call::WriteCard { .. }, [bytes]) => Answer::Bytes(read_bytes(bytes)?),
+        (Call::ReadCard { .. } | Call::SessionCard, fields) => Answer::Card(card(fields)?),
         _ => {
             return Err(format!(
                 "an answer to this call, or `refused K`, instead of `{text}`"

@@ -1,5 +1,6 @@
 //! The Rust and the port side by side on the same inputs, bit for bit.
 
+pub mod cards;
 pub mod find;
 pub mod fold;
 pub mod lent;

@@ -4,8 +4,9 @@
 use crate::lent::Lent;
 use drive::plain::{shortest, IMG, VOTES};
 use drive::scene::is_robot;
-use funnelivy::{ffi, Refusal};
-use recording::{Answer, Call, Length};
+use funnelivy::ffi::{self, RawCardAnswer};
+use funnelivy::{Card, Refusal, CARD_BYTES};
+use recording::{Answer, Call, CardFields, Length};
 
 /// An answer and what is wrong with the memory, if anything.
 pub type Made = (Answer, Option<&'static str>);
@@ -31,7 +32,7 @@ fn fault(right: bool, what: &'static str) -> Option<&'static str> {
 /// Makes a call that needs no session.
 ///
 /// # Panics
-/// For feed and read.
+/// For a call on a session.
 #[must_use]
 pub fn make(call: &Call) -> Made {
     let answer = match call {
@@ -85,7 +86,9 @@ fn make_lending(call: &Call) -> Made {
             sample_store,
             samples,
         } => open(*mode, *anchor, [*flag_store, *sample_store], samples),
-        _ => unreachable!("feed and read need a session"),
+        Call::WriteCard { buffer, card } => write_card(length(*buffer, CARD_BYTES), card),
+        Call::ReadCard { bytes } => read_card(bytes),
+        _ => unreachable!("the other calls need a session"),
     }
 }
 
@@ -147,4 +150,82 @@ fn open(mode: u64, anchor: u64, lent: [Length; 2], first: &[f32]) -> Made {
         number => Answer::Refused(number.into()),
     };
     (answer, fault(right, "open left the sample store otherwise"))
+}
+
+/// A card's fields as an answer.
+#[must_use]
+pub fn card_answer(card: Card) -> Answer {
+    Answer::Card(CardFields {
+        mode: card.mode,
+        end: card.end,
+        taken: card.taken,
+        evaluations: card.evaluations,
+        start: card.start,
+        start_quality: card.start_quality.to_bits(),
+        rate: card.rate.to_bits(),
+        slant: card.slant,
+        skip: card.skip,
+        quality: card.quality.to_bits(),
+    })
+}
+
+/// Writes into the first places of a longer memory.
+fn write_card(length: usize, fields: &CardFields) -> Made {
+    let card = Card {
+        mode: fields.mode,
+        end: fields.end,
+        taken: fields.taken,
+        evaluations: fields.evaluations,
+        start: fields.start,
+        start_quality: f32::from_bits(fields.start_quality),
+        rate: f64::from_bits(fields.rate),
+        slant: fields.slant,
+        skip: fields.skip,
+        quality: f32::from_bits(fields.quality),
+    };
+    let mut out = Lent::new(length + 9, 0xa5_u8);
+    let written = card.write(&mut out.memory[..length]);
+    let (answer, first) = match written {
+        Ok(()) => {
+            let bytes = out.memory[..length].to_vec();
+            (Answer::Bytes(bytes.clone()), bytes)
+        }
+        Err(refusal) => (Answer::Refused(refusal.0.into()), Vec::new()),
+    };
+    let right = out.begins_with(&first);
+    (answer, fault(right, "a card was written elsewhere"))
+}
+
+/// A card as the C interface answers it. After a refusal it holds nothing.
+#[must_use]
+pub fn raw_card(raw: &RawCardAnswer) -> Made {
+    let card = &raw.card;
+    let fields = CardFields {
+        mode: card.mode,
+        end: card.end,
+        taken: card.taken,
+        evaluations: card.evaluations,
+        start: card.start,
+        start_quality: card.start_quality.to_bits(),
+        rate: card.rate.to_bits(),
+        slant: card.slant,
+        skip: card.skip,
+        quality: card.quality.to_bits(),
+    };
+    if raw.refusal == 0 {
+        return (Answer::Card(fields), None);
+    }
+    let empty = fields.to_string() == "0 0 0 0 0 00000000 0000000000000000 0 0 00000000";
+    let what = "a refused card answers more than its number";
+    (Answer::Refused(raw.refusal.into()), fault(empty, what))
+}
+
+/// Reads through the library and through the C interface.
+fn read_card(bytes: &[u8]) -> Made {
+    let answer = or_refused(Card::read(bytes).map(card_answer));
+    // SAFETY: the pointer and length are those of a slice that outlives the call.
+    let raw = unsafe { ffi::funnelivy_read_card(bytes.as_ptr(), bytes.len()) };
+    let (other, wrong) = raw_card(&raw);
+    let unlike = fault(answer == other, "the library reads another card");
+    (answer, wrong.or(unlike))
 }

@@ -32,7 +32,7 @@ pub fn tally() -> Tally {
             "a store of 16,777,216 flags opened",
         ],
     );
-    let numbers: [(&str, &[u64]); 10] = [
+    let numbers: [(&str, &[u64]); 13] = [
         ("columns", &[1, 9]),
         ("window", &[9]),
         ("quality", &[1, 9]),
@@ -43,6 +43,9 @@ pub fn tally() -> Tally {
         ("open", &[1, 4, 5, 6, 8]),
         ("feed", &[5, 6, 7, 8, 10]),
         ("read", &[11]),
+        ("card1", &[12, 14]),
+        ("uncard", &[12, 13, 14]),
+        ("cardof", &[11]),
     ];
     for (call, numbers) in numbers {
         for number in numbers {

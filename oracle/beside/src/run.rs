@@ -1,7 +1,7 @@
 //! A run: its counts, its classes and its differences.
 
 use crate::port::Made;
-use crate::{find, fold, port, refused, sessions, sound};
+use crate::{cards, find, fold, port, refused, sessions, sound};
 use drive::machine::Rust;
 use drive::rng::Rng;
 use drive::tally::Tally;
@@ -19,6 +19,7 @@ pub struct Classes {
     pub find: Tally,
     pub sound: Tally,
     pub session: Tally,
+    pub cards: Tally,
     pub refused: Tally,
 }
 
@@ -47,6 +48,10 @@ fn name(call: &Call) -> &'static str {
         Call::Open { .. } => "open",
         Call::Feed { .. } => "feed",
         Call::Read => "read",
+        Call::WriteCard { .. } => "card1",
+        Call::ReadCard { .. } => "uncard",
+        Call::SessionCard => "cardof",
+        Call::Later { .. } => unreachable!("no call is made that is not here yet"),
     }
 }
 
@@ -55,7 +60,8 @@ impl Run {
     #[must_use]
     pub fn new(seed: u64) -> Self {
         let names = [
-            "columns", "window", "quality", "edge", "find", "fill", "probe", "open", "feed", "read",
+            "columns", "window", "quality", "edge", "find", "fill", "probe", "open", "feed",
+            "read", "card1", "uncard", "cardof",
         ];
         Self {
             seed,
@@ -68,6 +74,7 @@ impl Run {
                 find: find::tally(),
                 sound: sound::tally(),
                 session: sessions::tally(),
+                cards: cards::tally(),
                 refused: refused::tally(),
             },
             differences: 0,
@@ -83,6 +90,7 @@ impl Run {
         sound::round(self, &mut rng);
         refused::round(self, &mut rng);
         sessions::round(self, &mut rng);
+        cards::round(self, &mut rng);
     }
 
     /// Makes a call without a session on both sides. Gives the Rust's answer.
@@ -142,6 +150,7 @@ impl Run {
             &classes.find,
             &classes.sound,
             &classes.session,
+            &classes.cards,
             &classes.refused,
         ];
         let mut whole = true;

@@ -6,16 +6,18 @@ mod classes;
 mod ported;
 
 use crate::pictures::{self, Picture};
-use crate::port::Made;
+use crate::port::{self, Made};
 use crate::run::Run;
-use drive::machine::reading;
+use drive::card::Card;
+use drive::cards::ENDS;
+use drive::machine::{card_fields, reading};
 use drive::modes::MODES;
 use drive::plain::{Feed, Phase, Session, IMG, MOST_FLAGS, VOTES};
 use drive::rng::Rng;
 use drive::scene::is_robot;
 use drive::session::{piece, spoil};
 use ported::{Library, Marked, Ported};
-use recording::{Answer, End};
+use recording::{Answer, Call, End, Length};
 
 pub use classes::tally;
 
@@ -279,6 +281,27 @@ impl Driven<'_> {
         };
         let port = self.port.read();
         self.compare("read", 0, &rust, (port.clone(), None));
+        self.card();
         port
+    }
+
+    /// The session's card, and its bytes as the port writes its own card,
+    /// beside the card of the plain session's reading.
+    fn card(&mut self) {
+        let (answer, fault) = self.port.card();
+        if !self.plain.ended() {
+            self.compare("cardof", 0, &Answer::Refused(11), (answer, fault));
+            return;
+        }
+        let own = Card::of(self.plain.heard.mode, self.plain.reading());
+        let fields = Answer::Card(card_fields(&own));
+        self.compare("cardof", 0, &fields, (answer.clone(), fault));
+        if let Answer::Card(card) = answer {
+            let buffer = Length::AsAsked;
+            let written = port::make(&Call::WriteCard { buffer, card });
+            self.compare("card1", 0, &Answer::Bytes(own.bytes()), written);
+        }
+        let class = format!("card of a session, {}", ENDS[usize::from(own.end)].1);
+        self.run.classes.cards.note(&class, true);
     }
 }

@@ -2,6 +2,7 @@
 //! the vectors were made: only what VECTORS.md says of the files.
 
 use crate::live::Live;
+use crate::places;
 use crate::record::{bits32, bits64};
 use crate::search::NOWHERE;
 use rustfft::num_complex::Complex;
@@ -318,13 +319,53 @@ pub fn session(v: &Vector, live: &mut Live) -> Option<bool> {
             Some(flags.len() == m && answer == (v.x, v.y))
         }
         2 => {
-            let mut rest = v.payload;
-            let wanted: Vec<u64> = std::iter::from_fn(|| number(&mut rest)).collect();
-            Some(match live.read() {
-                Some((end, numbers)) => v.x == 0 && end == v.y && numbers[..] == wanted,
-                None => v.x == 11 && wanted.is_empty(),
-            })
+            let Some(read) = live.read() else {
+                return Some(v.x == 11 && v.payload.is_empty());
+            };
+            let (mut words, card) = v.payload.split_at_checked(64)?;
+            let wanted: Vec<u64> = std::iter::from_fn(|| number(&mut words)).collect();
+            let like = v.x == 0 && read.0 == v.y && read.1[..] == wanted;
+            let fields = places::of_reading(live.mode(), read);
+            Some(like && places::read(card) == Ok(fields))
         }
         _ => None,
     }
+}
+
+/// card.
+pub fn card(v: &Vector, _: &mut Live) -> Option<bool> {
+    let ten = |mut bytes: &[u8]| -> Option<[u64; 10]> {
+        let words: Vec<u64> = std::iter::from_fn(|| number(&mut bytes)).collect();
+        words.try_into().ok()
+    };
+    Some(match v.op {
+        0 => {
+            let (card, rest) = v.payload.split_at_checked(v.a as usize)?;
+            match places::read(card) {
+                Ok(fields) => v.x == 0 && ten(rest)? == fields,
+                Err(refusal) => v.x == refusal && rest.is_empty(),
+            }
+        }
+        1 => {
+            let (card, answers) = v.payload.split_at_checked(56)?;
+            let mut card = card.to_vec();
+            let right = |(value, &answer): (usize, &u8)| {
+                *card.get_mut(v.a as usize)? = value as u8;
+                Some(places::read(&card).err().unwrap_or(0) == u64::from(answer))
+            };
+            let right: Option<Vec<bool>> = answers.iter().enumerate().map(right).collect();
+            answers.len() == 256 && right?.into_iter().all(|right| right)
+        }
+        2 => {
+            let (words, bytes) = v.payload.split_at_checked(80)?;
+            let fields = ten(words)?;
+            let written = if v.x == 0 {
+                places::read(bytes) == Ok(fields)
+            } else {
+                bytes.is_empty()
+            };
+            places::write_refusal(fields, v.a) == v.x && written
+        }
+        _ => return None,
+    })
 }

@@ -2,6 +2,8 @@
 //! one generator of numbers with fixed seeds, nothing from outside.
 
 pub mod again;
+pub mod card;
+pub mod cards;
 pub mod dsp;
 pub mod facts;
 pub mod find_sync;
@@ -11,6 +13,7 @@ pub mod inner;
 pub mod live;
 pub mod machine;
 pub mod modes;
+pub mod places;
 pub mod plain;
 pub mod pulse;
 pub mod record;

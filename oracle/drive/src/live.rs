@@ -106,6 +106,15 @@ impl Live {
         (0, (state.flags.len() - before) as u64)
     }
 
+    /// The mode of the session last opened.
+    ///
+    /// # Panics
+    /// Before an open.
+    #[must_use]
+    pub fn mode(&self) -> usize {
+        self.state.as_ref().expect("a session is open").mode
+    }
+
     /// End and numbers, or nothing before the end.
     ///
     /// # Panics

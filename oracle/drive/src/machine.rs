@@ -1,10 +1,11 @@
 //! The Rust as a machine that recordings are made and replayed on.
 
+use crate::card::{Card, LENGTH};
 use crate::live::Live;
 use crate::plain::{shortest, IMG, VOTES};
 use crate::refusals;
 use crate::scene::is_robot;
-use recording::{Answer, Call, End, Length, Machine, Report};
+use recording::{Answer, Call, CardFields, End, Length, Machine, Report};
 use rustfft::num_complex::Complex;
 use slowrx::modespec::access::spec;
 use slowrx::sync::access::{self as sync, Found, Scratch, Tracker};
@@ -12,7 +13,8 @@ use std::cell::Cell;
 use std::rc::Rc;
 
 /// The Rust, with the session opened last. The Rust refuses nothing, so each
-/// refusal is document 01's table as the oracle has it; those are counted.
+/// refusal is the documents' table as the oracle has it; those are counted. The
+/// Rust has no cards: they are the oracle's own (`card`).
 #[derive(Default)]
 pub struct Rust {
     live: Live,
@@ -32,6 +34,40 @@ fn report(found: Found) -> Report {
         slant: found.slant,
         skip: found.skip,
         quality: found.quality,
+    }
+}
+
+/// A card of a recording.
+#[must_use]
+pub fn card(fields: &CardFields) -> Card {
+    Card {
+        mode: fields.mode,
+        end: fields.end,
+        taken: fields.taken,
+        evaluations: fields.evaluations,
+        start: fields.start,
+        start_quality: fields.start_quality,
+        rate: fields.rate,
+        slant: fields.slant,
+        skip: fields.skip,
+        quality: fields.quality,
+    }
+}
+
+/// The same the other way.
+#[must_use]
+pub fn card_fields(card: &Card) -> CardFields {
+    CardFields {
+        mode: card.mode,
+        end: card.end,
+        taken: card.taken,
+        evaluations: card.evaluations,
+        start: card.start,
+        start_quality: card.start_quality,
+        rate: card.rate,
+        slant: card.slant,
+        skip: card.skip,
+        quality: card.quality,
     }
 }
 
@@ -141,6 +177,28 @@ impl Rust {
         Some(self.unless(refusal, |_| reading(read.expect("the session has ended"))))
     }
 
+    fn write_card(&mut self, buffer: Length, fields: &CardFields) -> Answer {
+        // a longer buffer is refused for its length, however long it is
+        let mut out = vec![0; length(buffer, LENGTH).min(LENGTH + 1)];
+        let refusal = card(fields).write(&mut out);
+        self.unless(refusal, |_| Answer::Bytes(out))
+    }
+
+    /// A card, or the refusal of what was to give it.
+    fn card_or(&mut self, card: Result<Card, u64>) -> Answer {
+        match card {
+            Ok(card) => Answer::Card(card_fields(&card)),
+            Err(refusal) => self.unless(refusal, |_| unreachable!("refused")),
+        }
+    }
+
+    fn session_card(&mut self) -> Option<Answer> {
+        self.stores?;
+        let of = |reading| Card::of(self.live.mode(), reading);
+        let card = self.live.read().map(of).ok_or(11);
+        Some(self.card_or(card))
+    }
+
     /// The calls on a list of counts or a mode's columns.
     fn fold(&mut self, call: &Call) -> Option<Answer> {
         Some(match call {
@@ -206,6 +264,9 @@ impl Machine for Rust {
                 samples,
             } => self.feed([*flag_store, *sample_store], [*img, *votes], flags, samples),
             Call::Read => self.read(),
+            Call::WriteCard { buffer, card } => Some(self.write_card(*buffer, card)),
+            Call::ReadCard { bytes } => Some(self.card_or(Card::read(bytes))),
+            Call::SessionCard => self.session_card(),
             fold => self.fold(fold),
         }
     }

@@ -11,7 +11,7 @@ use crate::rng::Rng;
 use crate::scene::{Scene, Sound};
 use crate::search::taken_at;
 use crate::train::{set, Train};
-use recording::{record, Call, Entry, Length, Recording};
+use recording::{record, Call, Entry, Length, Recording, Version};
 use slowrx::modespec::access::spec;
 use slowrx::sync::access::{self as sync, Tracker};
 
@@ -33,7 +33,8 @@ pub fn text(seed: u64) -> String {
         answer: None,
     };
     let entries = calls.into_iter().enumerate().map(entry).collect();
-    record(&Recording { entries }, &mut Rust::default()).0
+    let version = Version::One;
+    record(&Recording { version, entries }, &mut Rust::default()).text
 }
 
 fn columns(mode: u64, n: u64) -> Call {

@@ -1,6 +1,7 @@
 //! session_vectors: whole sessions, cut into pieces, with refused calls
 //! strewn in.
 
+use crate::card::{Card, LENGTH, NONE};
 use crate::modes::MODES;
 use crate::plain::{shortest, unsound, Feed, Heard, Phase, Session, IMG, VOTES};
 use crate::record::{words, Records};
@@ -109,8 +110,22 @@ impl Driver {
             return;
         }
         let (end, numbers) = session.reading();
-        let payload: Vec<u8> = numbers.iter().flat_map(|n| n.to_le_bytes()).collect();
+        let mut payload: Vec<u8> = numbers.iter().flat_map(|n| n.to_le_bytes()).collect();
+        payload.extend(self.card(session));
         self.records.long(2, [0; 3], [0, end, 0], &payload);
+    }
+
+    /// The bytes of an ended session's card.
+    fn card(&mut self, session: &Session) -> [u8; LENGTH] {
+        let card = Card::of(session.heard.mode, session.reading());
+        let mut bytes = [0; LENGTH];
+        assert_eq!(card.write(&mut bytes), 0);
+        let tally = &mut self.tally;
+        let slanted = card.slant < NONE && card.skip != 0;
+        tally.note("card with a slant and a skip", slanted);
+        let best = card.start_quality == 1.0_f32.to_bits();
+        tally.note("card with a start quality of 1", best);
+        bytes
     }
 
     fn note_end(&mut self, session: &Session) {
@@ -385,6 +400,8 @@ pub fn vectors() -> Result<Records, String> {
             "a piece that ends the session with its last flag",
             "report with a slant of 90",
             "report with another rate",
+            "card with a slant and a skip",
+            "card with a start quality of 1",
             "read refused 11",
             "feed after the end, refused below 10",
             "later tones, heard at once, would tell another parity",

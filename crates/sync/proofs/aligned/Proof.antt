@@ -1,6 +1,8 @@
 -- `sync::aligned` meets its contract. Assumes nothing.
 use mathlib.Core.Path.{_≡_, refl, ap, _∙_}
+use native.Mathlib.Nat.{le-trans}
 use native.Mathlib.Omega.{arith}
+use lib.Dec.{lit≤}
 use lib.ListN.{length}
 use mir.Syntax.{w64}
 use mir.Val.{toZ, ofZ}
@@ -42,7 +44,7 @@ falling-edge-requires : tie.Need-falling-edge-requires
 falling-edge-requires c κs = search needs
 
 skip-samples-for-requires : tie.Need-skip-samples-for-requires
-skip-samples-for-requires c κs = rw (c .falling-edge .ensures) (edge-below _)
+skip-samples-for-requires c κs = rw (c .falling-edge .ensures) (le-trans (edge-below _) (lit≤ tt))
 
 slice-aggregate-quality : tie.Need-slice-aggregate-quality
 slice-aggregate-quality c = search needs

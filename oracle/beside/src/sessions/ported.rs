@@ -1,7 +1,7 @@
 //! A session of the port: through the library, and over marked memory.
 
 use crate::lent::Lent;
-use crate::port::{or_refused, Made};
+use crate::port::{card_answer, or_refused, raw_card, Made};
 use drive::plain::{IMG, VOTES};
 use drive::scene::is_robot;
 use funnelivy::ffi::{self, RawSession};
@@ -19,6 +19,8 @@ pub trait Ported {
     fn feed(&mut self, lengths: Lengths, flags: &[u8], samples: &[f32]) -> Made;
     /// Reads.
     fn read(&self) -> Answer;
+    /// The card.
+    fn card(&self) -> Made;
     /// Which of the two it is.
     fn kind(&self) -> &'static str;
 }
@@ -79,6 +81,15 @@ impl Ported for Library {
 
     fn read(&self) -> Answer {
         or_refused(self.session.as_ref().map_err(|r| *r).and_then(read))
+    }
+
+    fn card(&self) -> Made {
+        let card = self
+            .session
+            .as_ref()
+            .map_err(|r| *r)
+            .and_then(Session::card);
+        (or_refused(card.map(card_answer)), None)
     }
 
     fn kind(&self) -> &'static str {
@@ -287,6 +298,12 @@ impl Ported for Marked {
         // SAFETY: a struct of numbers by value.
         let read = unsafe { ffi::funnelivy_read(self.session) };
         read_answer(&read)
+    }
+
+    fn card(&self) -> Made {
+        // SAFETY: a struct of numbers by value.
+        let raw = unsafe { ffi::funnelivy_session_card(self.session) };
+        raw_card(&raw)
     }
 
     fn kind(&self) -> &'static str {

@@ -31,9 +31,7 @@ fn main() -> ExitCode {
     };
     if refused.get() > 0 {
         let number = refused.get();
-        eprintln!(
-            "{number} refusals: by document 01's table, not by the Rust, which refuses nothing"
-        );
+        eprintln!("{number} refusals: by the documents' tables; the Rust refuses nothing");
     }
     match done {
         Ok(true) => ExitCode::SUCCESS,

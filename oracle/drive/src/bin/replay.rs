@@ -16,6 +16,7 @@ const ALL: &[(&str, &str, bool, Judge)] = &[
     ("sync_start", "vectors", true, again::start),
     ("sync_start", "inner", true, again::start),
     ("session", "vectors", true, again::session),
+    ("card", "vectors", true, again::card),
 ];
 
 fn main() -> ExitCode {

@@ -18,6 +18,7 @@ const ALL: &[(&str, &str, Maker)] = &[
     ("sync_start", "vectors", drive::start::vectors),
     ("sync_start", "inner", drive::inner::vectors),
     ("session", "vectors", drive::session::vectors),
+    ("card", "vectors", drive::cards::vectors),
 ];
 
 fn main() -> ExitCode {

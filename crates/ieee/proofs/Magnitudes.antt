@@ -1,21 +1,21 @@
 -- How large the result of a float step can be: a bound of 2 ^ k goes through each. Assumes nothing.
-use mathlib.Core.Path.{_≡_, sym, ap, _∙_, subst}
+use mathlib.Core.Path.{_≡_, refl, sym, ap, _∙_, subst}
 use mathlib.Core.Bool.{Bool, true, false, cond, _&&_, Bool·beq}
-use Prim.Native.Nat.{ℕ, suc, _+_, _-_, _*_, _/_, _^_, _≤_, _<_, min, zero-le}
+use Prim.Native.Nat.{ℕ, zero, suc, _+_, _-_, _*_, _/_, _^_, _≤_, _<_, min, zero-le}
 use native.Mathlib.Nat.{le-trans, le-of-eq, le-refl, mul-one, one-mul, mul-assoc, mul-comm, mul-left-comm, mul-pos, mul-le-mul, mul-le-mul-left, mul-le-mul-right, le-of-mul-le-mul-right, div-le-of-le-mul}
 use native.Mathlib.Omega.{arith}
-use lib.Dec.{T, leb, leb→le, ltb, ltb→lt}
-use lib.IntN.{pos}
+use lib.Dec.{T, leb, leb→le, ltb}
+use lib.IntN.{pos, negℤ, natAbs}
 use lib.Pow.{pow-add, pow-pos, pow-mono, pow-lt}
-use lib.Ieee.{Float, nan, inf, fin, Format, binary64, prec, emax, low, up, down, unlike, odd, units, round, neg, sum, add, sub, mul, div, lt, le, isNan, ofInt, toUnsigned}
+use lib.Ieee.{Float, nan, inf, fin, Format, binary64, prec, emax, low, up, down, unlike, round, neg, sum, add, sub, mul, div, lt, le, isNan, ofInt, toUnsigned, toSigned}
 use lib.Ieee.Exact.{HasValue, units-val, round-exact}
 use lib.Ieee.Fits.{two, down-pos, round-is}
-use lib.Ieee.Order.{transfer, round-mono, kept, drop}
-use lib.Ieee.Positive.{num, den, den-pos, value→cross}
+use lib.Ieee.Order.{round-mono, kept, drop}
 use lib.Ieee.Scale.{grid, overflow, round-val}
+use lib.Ieee.Scale as Scale
 use Rattle.ieee.specs.Numbers.{ofNat}
 use Rattle.ieee.specs.Casts.{roundAway, maximum}
-use Rattle.ieee.proofs.Unsigned.{unsigned, unsigned-of-value, le→cross}
+use Rattle.ieee.proofs.Unsigned.{unsigned, unsigned-of-value, unsigned-finite, values-of-le, bounded}
 
 -- finite, and at most 2 ^ k in size
 abbrev pub Under : ℕ → Float → Type 0
@@ -40,20 +40,6 @@ weaker j k (inf s) h u = absurd u
 weaker j k (fin s m e) h u = le-trans u (mul-le-mul-right (down e) (pow-mono h))
 
 -- ---- rounding
-
-not-inf : (y : Float) → T (unsigned y) → T (le (inf false) y) → ⊥
-unfolding le
-not-inf nan u t = absurd u
-not-inf (inf s) u t = absurd u
-not-inf (fin s n d) u t = absurd t
-
-below-overflow : (f : Format) (q k : ℕ) (y : Float) → T (unsigned y) → T (le (units f false q k) y) → q * 2 ^ k < overflow f
-unfolding units
-below-overflow f q k y u = go (ltb (q * 2 ^ k) (overflow f)) (ltb→lt (q * 2 ^ k) (overflow f))
-  where
-    go : (b : Bool) → (T b → q * 2 ^ k < overflow f) → T (le (cond b (odd (suc (prec f)) false q k (low f)) (inf false)) y) → q * 2 ^ k < overflow f
-    go true h t = h tt
-    go false h t = absurd (not-inf y u t)
 
 under-of-value : (x : Float) (s : Bool) (g l k : ℕ) → 0 < l → HasValue x s g l → g * 1 ≤ 2 ^ k * l → Under k x
 under-of-value nan s g l k L v h = absurd v
@@ -92,11 +78,9 @@ round-under f s a c k C h b =
     let yv : HasValue y false (2 ^ k) 1 = power-value f k h in
     let yu : T (unsigned y) = unsigned-of-value y (2 ^ k) 1 yv in
     let xy : T (le x y) = round-mono f a c (2 ^ k) 1 C (omega arith) (le-trans (le-of-eq (mul-one a)) b) in
-    let g : grid f a c < overflow f = below-overflow f (kept (prec f) (a * 2 ^ low f) c) (drop (prec f) (a * 2 ^ low f) c) y yu (subst (λ (z : Float). T (le z y)) (round-is f false a c) xy) in
-    let xv : HasValue x false (grid f a c) (2 ^ low f) = round-val f a c g in
-    let cr : num x * den y ≤ num y * den x = le→cross x y (unsigned-of-value x (grid f a c) (2 ^ low f) xv) yu xy in
-    let sm : grid f a c * 1 ≤ 2 ^ k * 2 ^ low f =
-    transfer (grid f a c) (2 ^ k) (2 ^ low f) 1 (num x) (num y) (den x) (den y) (den-pos x) (den-pos y) (sym (value→cross x (grid f a c) (2 ^ low f) xv)) (sym (value→cross y (2 ^ k) 1 yv)) cr in
+    let xu : T (unsigned x) = bounded f a c x y refl yu xy in
+    let g : grid f a c < overflow f = Scale.round-under f a c (unsigned-finite x xu) in
+    let sm : grid f a c * 1 ≤ 2 ^ k * 2 ^ low f = values-of-le x y (grid f a c) (2 ^ low f) (2 ^ k) 1 xu yu (round-val f a c g) yv xy in
     let sv : HasValue (round f s a c) s (grid f a c) (2 ^ low f) =
     subst (λ (z : Float). HasValue z s (grid f a c) (2 ^ low f)) (sym (round-is f s a c)) (units-val f s (kept (prec f) (a * 2 ^ low f) c) (drop (prec f) (a * 2 ^ low f) c) g) in
     under-of-value (round f s a c) s (grid f a c) (2 ^ low f) k (pow-pos (low f)) sv sm
@@ -223,6 +207,9 @@ held-under k (fin s m e) u = go (lt (fin s m e) (fin false 0 (pos 0)))
     go true = zero-le
     go false = u
 
+smaller : (a b : ℕ) → min a b ≤ a
+smaller a b = omega arith
+
 pub cut-under : (k : ℕ) (x : Float) → Under k x → toUnsigned 64 x ≤ 2 ^ k
 unfolding toUnsigned
 cut-under k nan u = absurd u
@@ -230,6 +217,20 @@ cut-under k (inf s) u = absurd u
 cut-under k (fin true m e) u = zero-le
 cut-under k (fin false m e) u =
     le-trans (smaller (m * up e / down e) (2 ^ 64 - 1)) (div-le-of-le-mul (down e) (le-trans u (le-of-eq (mul-comm (2 ^ k) (down e)))))
+
+pub signed-under : (k : ℕ) (x : Float) → Under k x → natAbs (toSigned 63 x) ≤ 2 ^ k
+unfolding toSigned
+signed-under k nan u = absurd u
+signed-under k (inf s) u = absurd u
+signed-under k (fin s m e) u = go s
   where
-    smaller : (a b : ℕ) → min a b ≤ a
-    smaller a b = omega arith
+    size : (n : ℕ) → natAbs (negℤ (pos n)) ≤ n
+    size zero = zero-le
+    size (suc n) = le-refl (suc n)
+
+    whole : m * up e / down e ≤ 2 ^ k
+    whole = div-le-of-le-mul (down e) (le-trans u (le-of-eq (mul-comm (2 ^ k) (down e))))
+
+    go : (s : Bool) → natAbs (toSigned 63 (fin s m e)) ≤ 2 ^ k
+    go true = le-trans (size (min (m * up e / down e) (2 ^ 63))) (le-trans (smaller (m * up e / down e) (2 ^ 63)) whole)
+    go false = le-trans (smaller (m * up e / down e) (2 ^ 63 - 1)) whole

@@ -1,0 +1,3 @@
+-- The card of a session. Definitions only.
+pub mod Ledger
+pub mod Back

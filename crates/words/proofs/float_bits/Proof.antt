@@ -1,0 +1,20 @@
+-- `words::float_bits` meets its contract: a NaN has the pattern that the definition writes, and anything else its own.
+-- Assumes nothing.
+use mathlib.Core.Path.{sym, _∙_}
+use borrow.Author.Needs.{needs}
+use lib.Ieee.{binary64}
+use Rattle.words.proofs.Patterns.{no-nan, nan-bits, nan-bits64}
+use Rattle.words.proofs.float_bits.Statement.{statement}
+use Rattle.words.proofs.float_bits.Tie as tie
+
+float-to-bits-result : tie.Need-float-to-bits-result
+float-to-bits-result c = no-nan (c .before .args .x) (c .if1 .left)
+
+returns : tie.Need-returns
+returns c = sym nan-bits64 ∙ nan-bits binary64 (c .before .args .x) (c .if1 .taken)
+
+returns-2 : tie.Need-returns-2
+returns-2 c = search needs
+
+pub float-bits-spec : {M : Type 1} → statement M
+float-bits-spec = tie.close (tie.spec float-to-bits-result returns returns-2)
