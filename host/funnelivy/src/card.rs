@@ -3,6 +3,7 @@
 use crate::ffi::RawCard;
 use crate::refusal::check;
 use crate::{calls, End, Reading, Refusal, Report};
+use recording::CardFields;
 
 /// Length of a card.
 pub const CARD_BYTES: usize = 56;
@@ -43,7 +44,7 @@ impl Card {
     /// # Errors
     /// Refusals 12 (not [`CARD_BYTES`] long) and 14.
     pub fn write(&self, out: &mut [u8]) -> Result<(), Refusal> {
-        check(calls::write_card(self.raw(), out))
+        check(calls::write_card((*self).into(), out))
     }
 
     /// The card's bytes.
@@ -63,7 +64,7 @@ impl Card {
     pub fn read(bytes: &[u8]) -> Result<Self, Refusal> {
         let r = calls::read_card(bytes);
         check(r.refusal)?;
-        Ok(Self::of(&r.card))
+        Ok(r.card.into())
     }
 
     /// The slant in degrees, where the index is that of one.
@@ -100,23 +101,27 @@ impl Card {
             evaluations: self.evaluations,
         })
     }
+}
 
-    fn raw(&self) -> RawCard {
-        RawCard {
-            taken: self.taken,
-            evaluations: self.evaluations,
-            start: self.start,
-            skip: self.skip,
-            rate: self.rate,
-            start_quality: self.start_quality,
-            quality: self.quality,
-            mode: self.mode,
-            end: self.end,
-            slant: self.slant,
+impl From<Card> for RawCard {
+    fn from(card: Card) -> Self {
+        Self {
+            taken: card.taken,
+            evaluations: card.evaluations,
+            start: card.start,
+            skip: card.skip,
+            rate: card.rate,
+            start_quality: card.start_quality,
+            quality: card.quality,
+            mode: card.mode,
+            end: card.end,
+            slant: card.slant,
         }
     }
+}
 
-    pub(crate) fn of(raw: &RawCard) -> Self {
+impl From<RawCard> for Card {
+    fn from(raw: RawCard) -> Self {
         Self {
             mode: raw.mode,
             end: raw.end,
@@ -128,6 +133,41 @@ impl Card {
             slant: raw.slant,
             skip: raw.skip,
             quality: raw.quality,
+        }
+    }
+}
+
+/// As recordings write it, floats by their bits.
+impl From<Card> for CardFields {
+    fn from(card: Card) -> Self {
+        Self {
+            mode: card.mode,
+            end: card.end,
+            taken: card.taken,
+            evaluations: card.evaluations,
+            start: card.start,
+            start_quality: card.start_quality.to_bits(),
+            rate: card.rate.to_bits(),
+            slant: card.slant,
+            skip: card.skip,
+            quality: card.quality.to_bits(),
+        }
+    }
+}
+
+impl From<CardFields> for Card {
+    fn from(fields: CardFields) -> Self {
+        Self {
+            mode: fields.mode,
+            end: fields.end,
+            taken: fields.taken,
+            evaluations: fields.evaluations,
+            start: fields.start,
+            start_quality: f32::from_bits(fields.start_quality),
+            rate: f64::from_bits(fields.rate),
+            slant: fields.slant,
+            skip: fields.skip,
+            quality: f32::from_bits(fields.quality),
         }
     }
 }

@@ -1,9 +1,10 @@
 //! Funnelivy for Rust hosts: safe functions over the proved static library.
 //!
 //! [`Session`] owns the memory that a session is lent, and [`Card`] is an ended
-//! one as the ledger keeps it. The functions beside them are the single calls. A call that does not meet its conditions answers a
-//! [`Refusal`] and changes nothing. Every call is made in the default float
-//! environment, whatever the caller's is, and leaves the caller's as it was.
+//! one as the ledger keeps it. The functions beside them are the single calls. A
+//! call that does not meet its conditions answers a [`Refusal`] and changes
+//! nothing. Every call is made in the default float environment, whatever the
+//! caller's is, and leaves the caller's as it was.
 
 #![deny(unsafe_code)]
 

@@ -4,7 +4,7 @@ use crate::{
     best_pulse_window, falling_edge, find_sync, has_sync, sample_store_length, sizes,
     sync_pulse_columns, sync_quality, sync_window, Card, Refusal, Session, Work, CARD_BYTES,
 };
-use recording::{Answer, Call, CardFields, Length, Machine};
+use recording::{Answer, Call, Length, Machine};
 
 /// The port, with the session opened last.
 #[derive(Default)]
@@ -63,34 +63,8 @@ fn read(session: &Session) -> Result<Answer, Refusal> {
     })
 }
 
-fn card_of(fields: &CardFields) -> Card {
-    Card {
-        mode: fields.mode,
-        end: fields.end,
-        taken: fields.taken,
-        evaluations: fields.evaluations,
-        start: fields.start,
-        start_quality: f32::from_bits(fields.start_quality),
-        rate: f64::from_bits(fields.rate),
-        slant: fields.slant,
-        skip: fields.skip,
-        quality: f32::from_bits(fields.quality),
-    }
-}
-
-fn fields(card: Card) -> Answer {
-    Answer::Card(CardFields {
-        mode: card.mode,
-        end: card.end,
-        taken: card.taken,
-        evaluations: card.evaluations,
-        start: card.start,
-        start_quality: card.start_quality.to_bits(),
-        rate: card.rate.to_bits(),
-        slant: card.slant,
-        skip: card.skip,
-        quality: card.quality.to_bits(),
-    })
+fn held(card: Card) -> Answer {
+    Answer::Card(card.into())
 }
 
 impl Machine for Port {
@@ -164,11 +138,11 @@ impl Machine for Port {
             Call::Read => read(self.session.as_ref()?),
             Call::WriteCard { buffer, card } => {
                 let mut out = vec![0; places(*buffer, CARD_BYTES)];
-                let written = card_of(card).write(&mut out);
+                let written = Card::from(*card).write(&mut out);
                 written.map(|()| Answer::Bytes(out))
             }
-            Call::ReadCard { bytes } => Card::read(bytes).map(fields),
-            Call::SessionCard => self.session.as_ref()?.card().map(fields),
+            Call::ReadCard { bytes } => Card::read(bytes).map(held),
+            Call::SessionCard => self.session.as_ref()?.card().map(held),
             Call::Later { .. } => return None,
         }))
     }

@@ -220,7 +220,7 @@ impl Session {
     pub fn card(&self) -> Result<Card, Refusal> {
         let r = calls::session_card(self.raw);
         check(r.refusal)?;
-        Ok(Card::of(&r.card))
+        Ok(r.card.into())
     }
 
     /// Flags taken so far.

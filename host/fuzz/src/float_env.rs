@@ -163,18 +163,7 @@ fn find_sync(rng: &mut Rng, tally: &mut Tally) -> Outcome {
 fn card(rng: &mut Rng, tally: &mut Tally) -> Outcome {
     let raw = card::faint(rng);
     let bytes = card::encoded(&raw);
-    let own = Card {
-        mode: raw.mode,
-        end: raw.end,
-        taken: raw.taken,
-        evaluations: raw.evaluations,
-        start: raw.start,
-        start_quality: raw.start_quality,
-        rate: raw.rate,
-        slant: raw.slant,
-        skip: raw.skip,
-        quality: raw.quality,
-    };
+    let own = Card::from(raw);
     let mut out = [0; CARD_BYTES];
     compare(
         rng,

@@ -86,7 +86,7 @@ fn make_lending(call: &Call) -> Made {
             sample_store,
             samples,
         } => open(*mode, *anchor, [*flag_store, *sample_store], samples),
-        Call::WriteCard { buffer, card } => write_card(length(*buffer, CARD_BYTES), card),
+        Call::WriteCard { buffer, card } => write_card(length(*buffer, CARD_BYTES), *card),
         Call::ReadCard { bytes } => read_card(bytes),
         _ => unreachable!("the other calls need a session"),
     }
@@ -155,34 +155,12 @@ fn open(mode: u64, anchor: u64, lent: [Length; 2], first: &[f32]) -> Made {
 /// A card's fields as an answer.
 #[must_use]
 pub fn card_answer(card: Card) -> Answer {
-    Answer::Card(CardFields {
-        mode: card.mode,
-        end: card.end,
-        taken: card.taken,
-        evaluations: card.evaluations,
-        start: card.start,
-        start_quality: card.start_quality.to_bits(),
-        rate: card.rate.to_bits(),
-        slant: card.slant,
-        skip: card.skip,
-        quality: card.quality.to_bits(),
-    })
+    Answer::Card(card.into())
 }
 
 /// Writes into the first places of a longer memory.
-fn write_card(length: usize, fields: &CardFields) -> Made {
-    let card = Card {
-        mode: fields.mode,
-        end: fields.end,
-        taken: fields.taken,
-        evaluations: fields.evaluations,
-        start: fields.start,
-        start_quality: f32::from_bits(fields.start_quality),
-        rate: f64::from_bits(fields.rate),
-        slant: fields.slant,
-        skip: fields.skip,
-        quality: f32::from_bits(fields.quality),
-    };
+fn write_card(length: usize, fields: CardFields) -> Made {
+    let card = Card::from(fields);
     let mut out = Lent::new(length + 9, 0xa5_u8);
     let written = card.write(&mut out.memory[..length]);
     let (answer, first) = match written {
@@ -199,19 +177,7 @@ fn write_card(length: usize, fields: &CardFields) -> Made {
 /// A card as the C interface answers it. After a refusal it holds nothing.
 #[must_use]
 pub fn raw_card(raw: &RawCardAnswer) -> Made {
-    let card = &raw.card;
-    let fields = CardFields {
-        mode: card.mode,
-        end: card.end,
-        taken: card.taken,
-        evaluations: card.evaluations,
-        start: card.start,
-        start_quality: card.start_quality.to_bits(),
-        rate: card.rate.to_bits(),
-        slant: card.slant,
-        skip: card.skip,
-        quality: card.quality.to_bits(),
-    };
+    let fields = CardFields::from(Card::from(raw.card));
     if raw.refusal == 0 {
         return (Answer::Card(fields), None);
     }
