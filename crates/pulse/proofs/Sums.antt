@@ -27,7 +27,7 @@ sum-shift f s (suc n) =
     omega (arith, sum-shift f s n)
 
 -- from one run to the next: less the value that leaves, plus the one that enters
-sum-slide : (f : ℕ → ℕ) (s n : ℕ) → sumFrom f (suc s) n + f s ≡ sumFrom f s n + f (s + n)
+pub sum-slide : (f : ℕ → ℕ) (s n : ℕ) → sumFrom f (suc s) n + f s ≡ sumFrom f s n + f (s + n)
 sum-slide f s n = omega (arith, sum-shift f s n, sum-more f s n, ap (sumFrom f s) (add-one n))
 
 pub sum-same : (f g : ℕ → ℕ) (s n : ℕ) → ((k : ℕ) → k < n → f (s + k) ≡ g (s + k)) → sumFrom f s n ≡ sumFrom g s n

@@ -5,9 +5,11 @@ ghost use Prim.Native.Nat.{_+_, _-_, _*_, _/_, _%_, _≤_, _<_, _^_, max};
 ghost use mathlib.Core.Bool.{cond};
 ghost use lib.Dec.{leb};
 ghost use lib.ListN.{length, getD};
+ghost use lib.Signed.{mag};
 ghost use Rattle.pulse.specs.Sums.{sumFrom, largest, FirstLargest};
 ghost use Rattle.pulse.specs.PulseWindow.{windowSum, bestWindow, betterOf, windowAnswer};
-ghost use Rattle.pulse.specs.Edge.{fourFrom, fallAt, slipped, edgeOf, edgeAnswer};
+ghost use Rattle.pulse.specs.Edge.{fallAt, slipped, edgeOf, edgeAnswer};
+ghost use Rattle.pulse.specs.Sliding.{differenceAt, slidBy, notNegative};
 ghost use Rattle.pulse.specs.Median.{medianOf, countAtMost};
 ghost use Rattle.pulse.specs.Quality.{PulseFits, qualityBy, qualityOf, qualityAnswer};
 ghost use Rattle.limits.specs.Ranges.{allAtMost};
@@ -200,28 +202,54 @@ pub fn sync_quality(counts: &[u32], mode: u8, lines: usize) -> QualityAnswer
 
 // ---- the falling edge
 
-// How far four counts from x on lie above the next four, and 0 where they do not.
-fn fall_at(counts: &[u32], x: usize) -> u64
-    requires { ⌜ x + 8 ≤ length (now counts) ⌝ }
-    ensures { λ r. ⌜ r ≡ fallAt (now (counts .entry)) x ⌝ }
+// The difference at column 0: four counts less the next four.
+fn first_difference(counts: &[u32]) -> i64
+    requires { ⌜ 8 ≤ length (now counts) ⌝ }
+    ensures { λ r. ⌜ r ≡ differenceAt (now (counts .entry)) 0 ⌝ }
 {
-    let high = sum_from(counts, x, 4);
-    let low = sum_from(counts, x + 4, 4);
-    if low < high { high - low } else { 0 }
+    let high = sum_from(counts, 0, 4);
+    let low = sum_from(counts, 4, 4);
+    (high as i64) - (low as i64)
 }
 
-// The first of the 692 places with the largest fall.
+// From a column's difference to the next: less the count that leaves, plus twice the one that crosses from the second four
+// to the first, less the one that enters.
+fn slide(difference: i64, leaves: u32, crosses: u32, enters: u32) -> i64
+    requires { ⌜ mag difference < 2 ^ 35 ⌝ }
+    ensures { λ r. ⌜ r ≡ slidBy difference leaves crosses enters ⌝ }
+{
+    difference - (leaves as i64) + 2 * (crosses as i64) - (enters as i64)
+}
+
+// The difference at column x, from that at the column before.
+fn next_difference(counts: &[u32], x: usize, difference: i64) -> i64
+    requires { ⌜ (1 ≤ x) × (x + 8 ≤ length (now counts)) × (difference ≡ differenceAt (now counts) (x - 1)) ⌝ }
+    ensures { λ r. ⌜ r ≡ differenceAt (now (counts .entry)) x ⌝ }
+{
+    slide(difference, counts[x - 1], counts[x + 3], counts[x + 7])
+}
+
+// A difference, and 0 where it is negative.
+fn clipped(difference: i64) -> u64
+    ensures { λ r. ⌜ r ≡ notNegative difference ⌝ }
+{
+    if difference < 0 { 0 } else { difference as u64 }
+}
+
+// The first of the 692 places with the largest fall; the difference is a running value.
 fn steepest(counts: &[u32]) -> BestWindow
     requires { ⌜ length (now counts) ≡ 700 ⌝ }
     ensures { λ r. ⌜ FirstLargest (fallAt (now (counts .entry))) 692 (r .start) (r .sum) ⌝ }
 {
+    let mut difference = first_difference(counts);
     let mut best = BestWindow {
         start: 0,
-        sum: fall_at(counts, 0),
+        sum: clipped(difference),
     };
     let mut x: usize = 1;
     while x < 692 {
-        best = better(best, x, fall_at(counts, x));
+        difference = next_difference(counts, x, difference);
+        best = better(best, x, clipped(difference));
         x += 1;
     }
     best

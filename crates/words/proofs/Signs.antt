@@ -1,13 +1,14 @@
 -- The number that 64 bits are in two's complement, from 2 ^ 64 - 1 - b, which is not negative. Assumes nothing.
-use mathlib.Core.Path.{_≡_, refl, sym, ap, _∙_, subst}
+use mathlib.Core.Path.{_≡_, refl, sym, ap, _∙_}
 use mathlib.Core.Bool.{Bool, cond}
 use Prim.Native.Nat.{ℕ, zero, suc, _+_, _-_, _^_, _≤_, _<_}
 use native.Mathlib.Omega.{arith}
 use lib.IntN.{ℤ, pos, negsuc, _-ℤ_}
 use mir.Syntax.{w64}
 use mir.Val.{SFits, toZ, ofZ}
-use mir.ValLaws.{toZ-pos, toZ-ofZ}
+use mir.ValLaws.{toZ-pos}
 use borrow.Author.Tests.{lt-ltb, le-ltb}
+use Rattle.limits.proofs.Signed.{fits-as, kept-as}
 use Rattle.words.specs.Words.{signedOf}
 
 -- -1 - m
@@ -35,7 +36,7 @@ module _ (b : ℕ) (h : 2 ^ 63 ≤ b) where
   is = ap (λ (z : ℤ). negsuc 0 -ℤ z) (toZ-pos w64 rest small) ∙ minus-one rest
 
   pub high-fits : SFits w64 (negsuc 0 -ℤ toZ w64 rest)
-  high-fits = subst (SFits w64) (sym is) (record { sfits = small })
+  high-fits = fits-as is small
 
   pub high : toZ w64 (ofZ w64 (negsuc 0 -ℤ toZ w64 rest)) ≡ signedOf b
-  high = toZ-ofZ w64 (negsuc 0 -ℤ toZ w64 rest) high-fits ∙ is ∙ ap (λ (t : Bool). cond t (pos b) (negsuc rest)) (sym (le-ltb b (2 ^ 63) h))
+  high = kept-as is small ∙ ap (λ (t : Bool). cond t (pos b) (negsuc rest)) (sym (le-ltb b (2 ^ 63) h))

@@ -47,6 +47,8 @@ pub fn tally() -> Tally {
             "edge: above 350, taken back",
             "edge: tie, the first wins",
             "edge: window 692 would be best, not scanned",
+            "edge: the last window scanned is the only fall",
+            "edge: behind a rise over 600 columns",
             "edge: a count of 1,000,000",
         ],
     )
@@ -233,7 +235,7 @@ fn note_quality(tally: &mut Tally, mut counts: Vec<u32>, mode: usize, lines: usi
     tally.note(name, unlike);
 }
 
-/// 700 counts of one of six shapes.
+/// 700 counts of one of seven shapes.
 fn edge_counts(rng: &mut Rng) -> Vec<u32> {
     let mut counts = vec![0; COLUMNS];
     match rng.below(12) {
@@ -271,6 +273,14 @@ fn edge_counts(rng: &mut Rng) -> Vec<u32> {
             };
             part.fill(rng.pick(&[1, 7, 1_000_000]));
         }
+        // a rise column by column up to the last ones, and no counts behind it
+        9 => {
+            let (end, step) = (690 + rng.index(10), rng.pick(&[1, 2, 1_430]));
+            let rise = (0_u32..).map(|x| x * step);
+            for (count, height) in counts[..end].iter_mut().zip(rise) {
+                *count = height;
+            }
+        }
         _ => {
             let top = rng.pick(&[2, 4, 241, 1_000_001]);
             counts.fill_with(|| rng.below(top) as u32);
@@ -305,6 +315,10 @@ fn edge(run: &mut Run, rng: &mut Rng) {
     tally.note("edge: tie, the first wins", again);
     let name = "edge: window 692 would be best, not scanned";
     tally.note(name, fall(692) > best.max(0));
+    let name = "edge: the last window scanned is the only fall";
+    tally.note(name, fall(691) > 0 && (0..691).all(|x| fall(x) <= 0));
+    let name = "edge: behind a rise over 600 columns";
+    tally.note(name, best > 0 && (0..600).all(|x| fall(x) < 0));
     let name = "edge: a count of 1,000,000";
     tally.note(name, counts.contains(&1_000_000));
 }

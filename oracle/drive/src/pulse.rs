@@ -264,6 +264,7 @@ fn edges(records: &mut Records, rng: &mut Rng) -> Result<(), String> {
             "edge after 350 taken back",
             "tie, the first wins",
             "window 692 would be best, not scanned",
+            "the last window scanned is the only fall",
             "counts of 1,000,000",
         ],
     );
@@ -296,6 +297,10 @@ fn edges(records: &mut Records, rng: &mut Rng) -> Result<(), String> {
         tally.note(
             "window 692 would be best, not scanned",
             at(692) > best.max(0),
+        );
+        tally.note(
+            "the last window scanned is the only fall",
+            at(691) > 0 && (0..691).all(|x| at(x) <= 0),
         );
         tally.note("counts of 1,000,000", counts.contains(&1_000_000));
     };

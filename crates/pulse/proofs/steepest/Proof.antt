@@ -1,35 +1,43 @@
--- `pulse::steepest` meets its contract. The loop's invariant: the best is the first of the largest falls so far.
--- Assumes nothing.
-use mathlib.Core.Path.{_≡_, refl, sym, ap, _∙_}
-use Prim.Native.Nat.{ℕ, _+_, _-_, _≤_, _<_}
+-- `pulse::steepest` meets its contract. The loop's invariant: the running value is the difference at the column before x, and the best is the first of
+-- the largest falls so far. Assumes nothing.
+use mathlib.Core.Path.{_≡_, ap, _∙_}
+use Prim.Native.Nat.{_+_, _-_, _≤_}
 use native.Mathlib.Omega.{arith}
-use lib.ListN.{length}
+use mir.Syntax.{w64}
+use mir.Val.{toZ}
+use mir.ValLaws.{toZ-ofZ}
 use Rattle.pulse.specs.Sums.{FirstLargest}
 use Rattle.pulse.specs.Edge.{fallAt}
+use Rattle.pulse.specs.Sliding.{differenceAt, notNegative}
 use Rattle.pulse.proofs.Largest.{first-one, better-more}
+use Rattle.pulse.proofs.Sliding.{difference-falls}
 use Rattle.pulse.proofs.steepest.Statement.{statement}
 use Rattle.pulse.proofs.steepest.Tie as tie
-use Rattle.pulse.proofs.steepest.Reads as reads
-use Rattle.pulse.proofs.steepest.Lts as lts
-use Rattle.pulse.proofs.better.Reads as better-reads
-use Rattle.pulse.proofs.fall_at.Reads as fall-at-reads
 
 abbrev Inv-loop : tie.InvT-loop
-Inv-loop counts best₀ x₀ best x = (x ≤ 692) × FirstLargest (fallAt counts) x (best .start) (best .sum)
+Inv-loop counts difference₀ best₀ x₀ difference best x = (1 ≤ x) × (x ≤ 692) × (toZ w64 difference ≡ differenceAt counts (x - 1)) × FirstLargest (fallAt counts) x (best .start) (best .sum)
 
 abbrev μ-loop : tie.MeasureT-loop
-μ-loop counts best₀ x₀ best x = 692 - x
+μ-loop counts difference₀ best₀ x₀ difference best x = 692 - x
 
-fall-at-requires : tie.Need-fall-at-requires Inv-loop μ-loop
-fall-at-requires c κs = omega arith
+first-difference-requires : tie.Need-first-difference-requires Inv-loop μ-loop
+first-difference-requires c κs = omega arith
+
+clipped-requires : tie.Need-clipped-requires Inv-loop μ-loop
+clipped-requires c κs = tt
 
 loop-holds : tie.Need-loop-holds Inv-loop μ-loop
 loop-holds c =
-    let a = c .before .before .args in
-    (omega arith, rw (c .fall-at .ensures) (first-one (fallAt (a .counts .now))))
+    let f = c .before in
+    let counts = f .before .before .args .counts .now in
+    let e = toZ-ofZ w64 (f .first-difference .result) (record { sfits = f .first-difference .ok }) ∙ f .first-difference .ensures in
+    (omega arith, omega arith, e, rw (c .clipped .ensures ∙ ap notNegative e ∙ difference-falls counts 0) (first-one (fallAt counts)))
 
-fall-at-requires-2 : tie.Need-fall-at-requires-2 Inv-loop μ-loop
-fall-at-requires-2 c κs = omega arith
+next-difference-requires : tie.Need-next-difference-requires Inv-loop μ-loop
+next-difference-requires c κs = (omega arith, omega arith, c .before .loop .inv .2)
+
+clipped-requires-2 : tie.Need-clipped-requires-2 Inv-loop μ-loop
+clipped-requires-2 c κs = tt
 
 better-requires : tie.Need-better-requires Inv-loop μ-loop
 better-requires c κs = tt
@@ -42,17 +50,17 @@ loop-less c = omega arith
 
 loop-again : tie.Need-loop-again Inv-loop μ-loop
 loop-again c =
-    let n = c .before in
+    let n = c .before .before in
     let l = n .before .before in
-    let a = l .before .before .before .args in
-    (omega arith, rw (c .better .ensures) (better-more (fallAt (a .counts .now)) (l .loop .x) _ (l .loop .best) (n .fall-at2 .ensures) (l .loop .inv .1)))
+    let counts = l .before .before .before .before .args .counts .now in
+    let x = l .loop .x in
+    let i : x ≡ x + 1 - 1 = omega arith in
+    let e = toZ-ofZ w64 (n .next-difference .result) (record { sfits = n .next-difference .ok }) ∙ n .next-difference .ensures in
+    let f = c .before .clipped2 .ensures ∙ ap notNegative e ∙ difference-falls counts x in
+    (omega arith, omega arith, e ∙ ap (differenceAt counts) i, rw (c .better .ensures) (better-more (fallAt counts) x _ (l .loop .best) f (l .loop .inv .3)))
 
 returns : tie.Need-returns Inv-loop μ-loop
-returns c =
-    let l = c .before in
-    let a = l .before .before .before .args in
-    let e : l .loop .x ≡ 692 = omega arith in
-    rw e at (l .loop .inv .1)
+returns c = let l = c .before in let e : l .loop .x ≡ 692 = omega arith in rw e at (l .loop .inv .3)
 
 pub steepest-spec : {M : Type 1} → statement M
 steepest-spec =
@@ -60,9 +68,11 @@ steepest-spec =
     (tie.spec
     Inv-loop
     μ-loop
-    fall-at-requires
+    first-difference-requires
+    clipped-requires
     loop-holds
-    fall-at-requires-2
+    next-difference-requires
+    clipped-requires-2
     better-requires
     add-x
     loop-less

@@ -3,11 +3,12 @@
 //!
 //!     cargo run --release --bin bench [REPEATS] [PART ...]
 //!
-//! The parts are find, start, feed, memory and stations; without one, all.
+//! The parts are find, edge, start, feed, memory and stations; without one, all.
 //! A time is the least of the repeats, in processor time of the thread; Rust
 //! and port take turns.
 
 mod clock;
+mod edge;
 mod feed;
 mod find;
 mod input;
@@ -19,8 +20,9 @@ use std::process::ExitCode;
 /// Name of a part, and what prints its table.
 type Part = (&'static str, fn(usize));
 
-const PARTS: [Part; 5] = [
+const PARTS: [Part; 6] = [
     ("find", find::print),
+    ("edge", edge::print),
     ("start", start::print),
     ("feed", feed::print),
     ("memory", load::print_memory),
@@ -49,7 +51,7 @@ fn main() -> ExitCode {
         Ok(both) => both,
         Err(trouble) => {
             eprintln!("bench: {trouble}");
-            eprintln!("usage: bench [REPEATS] [find|start|feed|memory|stations ...]");
+            eprintln!("usage: bench [REPEATS] [find|edge|start|feed|memory|stations ...]");
             return ExitCode::from(2);
         }
     };
