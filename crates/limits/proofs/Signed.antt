@@ -74,6 +74,10 @@ fits-as e h = subst (SFits w64) (sym e) (record { sfits = h })
 pub kept-as : {x z : ℤ} → x ≡ z → mag z < 2 ^ 63 → toZ w64 (ofZ w64 x) ≡ z
 kept-as e h = toZ-ofZ w64 _ (fits-as e h) ∙ e
 
+-- and so are those of an argument or a call's result, which is known to fit
+pub given-as : {x z : ℤ} → mag x < 2 ^ 63 → x ≡ z → toZ w64 (ofZ w64 x) ≡ z
+given-as h e = toZ-ofZ w64 _ (record { sfits = h }) ∙ e
+
 module _ (z : ℤ) (f : SFits w64 z) where
   abbrev read : ℤ
   read = toZ w64 (ofZ w64 z)

@@ -6,9 +6,8 @@ use native.Mathlib.Omega.{arith}
 use lib.IntN.{ℤ}
 use lib.ListN.{getD}
 use lib.Signed.{mag}
-use mir.Syntax.{w64}
-use mir.ValLaws.{toZ-ofZ}
 use borrow.Author.Needs.{needs}
+use Rattle.limits.proofs.Signed.{given-as}
 use Rattle.pulse.specs.Sliding.{differenceAt, slidBy}
 use Rattle.pulse.proofs.Sliding.{difference-next, difference-below}
 use Rattle.pulse.proofs.next_difference.Statement.{statement}
@@ -54,15 +53,14 @@ slide-requires : tie.Need-slide-requires
 slide-requires c κs =
     let b = c .before .before .before .before in
     let a = b .args in
-    subst (λ (z : ℤ). mag z < 2 ^ 35) (sym (toZ-ofZ w64 (a .difference) (b .fits .difference) ∙ b .pre .2)) (difference-below (a .counts .now) (λ k. c .shared-slice-known4 .given k .fits) (a .x - 1))
+    subst (λ (z : ℤ). mag z < 2 ^ 35) (sym (given-as (b .fits .difference .sfits) (b .pre .2))) (difference-below (a .counts .now) (λ k. c .shared-slice-known4 .given k .fits) (a .x - 1))
 
 returns : tie.Need-returns
 returns c =
     let b = c .before .before .before .before .before in
     let a = b .args in
-    toZ-ofZ w64 (c .slide .result) (record { sfits = c .slide .ok })
-    ∙ c .slide .ensures
-    ∙ ap (λ (z : ℤ). slidBy z (getD (a .counts .now) (a .x - 1) 0) (getD (a .counts .now) (a .x + 3) 0) (getD (a .counts .now) (a .x + 7) 0)) (toZ-ofZ w64 (a .difference) (b .fits .difference) ∙ b .pre .2)
+    given-as (c .slide .ok) (c .slide .ensures)
+    ∙ ap (λ (z : ℤ). slidBy z (getD (a .counts .now) (a .x - 1) 0) (getD (a .counts .now) (a .x + 3) 0) (getD (a .counts .now) (a .x + 7) 0)) (given-as (b .fits .difference .sfits) (b .pre .2))
     ∙ sym (slides (a .counts .now) (a .x) (b .pre .0))
 
 pub next-difference-spec : {M : Type 1} → statement M

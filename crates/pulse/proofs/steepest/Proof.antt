@@ -5,7 +5,7 @@ use Prim.Native.Nat.{_+_, _-_, _≤_}
 use native.Mathlib.Omega.{arith}
 use mir.Syntax.{w64}
 use mir.Val.{toZ}
-use mir.ValLaws.{toZ-ofZ}
+use Rattle.limits.proofs.Signed.{given-as}
 use Rattle.pulse.specs.Sums.{FirstLargest}
 use Rattle.pulse.specs.Edge.{fallAt}
 use Rattle.pulse.specs.Sliding.{differenceAt, notNegative}
@@ -30,7 +30,7 @@ loop-holds : tie.Need-loop-holds Inv-loop μ-loop
 loop-holds c =
     let f = c .before in
     let counts = f .before .before .args .counts .now in
-    let e = toZ-ofZ w64 (f .first-difference .result) (record { sfits = f .first-difference .ok }) ∙ f .first-difference .ensures in
+    let e = given-as (f .first-difference .ok) (f .first-difference .ensures) in
     (omega arith, omega arith, e, rw (c .clipped .ensures ∙ ap notNegative e ∙ difference-falls counts 0) (first-one (fallAt counts)))
 
 next-difference-requires : tie.Need-next-difference-requires Inv-loop μ-loop
@@ -55,7 +55,7 @@ loop-again c =
     let counts = l .before .before .before .before .args .counts .now in
     let x = l .loop .x in
     let i : x ≡ x + 1 - 1 = omega arith in
-    let e = toZ-ofZ w64 (n .next-difference .result) (record { sfits = n .next-difference .ok }) ∙ n .next-difference .ensures in
+    let e = given-as (n .next-difference .ok) (n .next-difference .ensures) in
     let f = c .before .clipped2 .ensures ∙ ap notNegative e ∙ difference-falls counts x in
     (omega arith, omega arith, e ∙ ap (differenceAt counts) i, rw (c .better .ensures) (better-more (fallAt counts) x _ (l .loop .best) f (l .loop .inv .3)))
 
