@@ -82,6 +82,9 @@ extern "C" {
  * refused call returns a record of zeros, which is no session: go on with the
  * record that was handed to it.
  *
+ * `windows` is how many windows have the largest sum, at the evaluation that
+ * found the start: 1 unless several windows tie, up to 700.
+ *
  * In this and every other record the bytes between and behind the fields are
  * not written and may hold anything: compare records by their fields, not by
  * memcmp.
@@ -98,6 +101,7 @@ typedef struct {
     int64_t skip;          /* of the report */
     float start_quality;   /* where there is a start */
     float quality;         /* of the report */
+    uint16_t windows;      /* with the largest sum, where there is a start */
     uint8_t mode;
     uint8_t phase;         /* 0 searching, 1 collecting, 2 reported, 3 unfound, 4 cut short */
     uint8_t has_slant;
@@ -118,6 +122,7 @@ typedef struct {
     uint32_t refusal;
     uint64_t start;
     uint64_t sum;
+    uint64_t windows;  /* how many windows have that sum */
 } funnelivy_window_answer;
 
 typedef struct {
@@ -162,6 +167,7 @@ typedef struct {
     float start_quality; /* reported, cut short */
     float quality;
     uint32_t has_slant;
+    uint32_t windows; /* of the session: reported, cut short */
 } funnelivy_reading;
 
 /*
@@ -216,7 +222,8 @@ funnelivy_sizes_answer funnelivy_sizes(uint8_t mode);
 /* Columns of a sync pulse in a line of n columns. Refuses 1, 9 (n above 65,536). */
 funnelivy_columns_answer funnelivy_columns(uint8_t mode, uint64_t n);
 
-/* The first best window of `width` counts in a ring. Refuses 9 (no counts,
+/* The first window of `width` counts in a ring whose sum is the largest, that
+ * sum, and how many windows have it: 1 unless several tie. Refuses 9 (no counts,
  * more than 65,536, a width of 0 or above the number of counts). */
 funnelivy_window_answer funnelivy_window(const uint32_t *counts, size_t counts_len, uint64_t width);
 
@@ -280,10 +287,10 @@ uint32_t funnelivy_write_card(funnelivy_card card, uint8_t *out, size_t out_len)
  * version), 14. A card that is read writes back as the same bytes. */
 funnelivy_card_answer funnelivy_read_card(const uint8_t *bytes, size_t bytes_len);
 
-/* The card of an ended session: what read gives, with the slant as its index.
- * Refuses 11. The card of a session is never refused by write_card; that of a
- * record that no call returned may be (a slant that is no angle of the table
- * has the index 254). */
+/* The card of an ended session: what read gives, without `windows` and with the
+ * slant as its index. Refuses 11. The card of a session is never refused by
+ * write_card; that of a record that no call returned may be (a slant that is no
+ * angle of the table has the index 254). */
 funnelivy_card_answer funnelivy_session_card(funnelivy_session session);
 
 /* The library is for x86-64 alone; elsewhere these are left out and the rest can

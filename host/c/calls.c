@@ -43,15 +43,40 @@ static void sizes_and_columns(void) {
     CHECK(funnelivy_columns(0, 65537).refusal == 9);
 }
 
+static int same_window(funnelivy_window_answer a, funnelivy_window_answer b) {
+    return a.refusal == b.refusal && a.start == b.start && a.sum == b.sum &&
+           a.windows == b.windows;
+}
+
 static void windows_and_quality(void) {
     static const uint32_t ring[4] = {5, 1, 1, 5};
     static const uint32_t equal[4] = {5, 5, 5, 5};
-    funnelivy_window_answer r = funnelivy_window(ring, 4, 2);
-    CHECK(r.refusal == 0 && r.start == 3 && r.sum == 10);
-    r = funnelivy_window(equal, 4, 2);
-    CHECK(r.refusal == 0 && r.start == 0 && r.sum == 10);
-    CHECK(funnelivy_window(ring, 4, 5).refusal == 9);
-    CHECK(funnelivy_window(NULL, 0, 1).refusal == 9);
+    /* Larger sums behind some that tie. */
+    static const uint32_t later[7] = {4, 4, 4, 9, 0, 9, 4};
+    /* Both windows with the largest sum cross the ring's end. */
+    static const uint32_t crossing[5] = {5, 0, 0, 0, 5};
+    static const struct {
+        const uint32_t *counts;
+        size_t n;
+        uint64_t width;
+        funnelivy_window_answer answer;
+    } known[] = {
+        {ring, 4, 2, {0, 3, 10, 1}},
+        {equal, 4, 2, {0, 0, 10, 4}},
+        {ring, 4, 4, {0, 0, 12, 4}},
+        {ring, 1, 1, {0, 0, 5, 1}},
+        {later, 7, 1, {0, 3, 9, 2}},
+        {later, 7, 2, {0, 2, 13, 2}},
+        {crossing, 5, 3, {0, 3, 10, 2}},
+        {ring, 4, 0, {9, 0, 0, 0}},
+        {ring, 4, 5, {9, 0, 0, 0}},
+        {NULL, 0, 1, {9, 0, 0, 0}},
+    };
+    size_t i;
+    for (i = 0; i < sizeof known / sizeof known[0]; i++) {
+        CHECK(same_window(funnelivy_window(known[i].counts, known[i].n, known[i].width),
+                          known[i].answer));
+    }
     CHECK(funnelivy_quality(NULL, 0, 4, 0).refusal == 0);
     CHECK(funnelivy_quality(NULL, 0, 4, 0).quality == 0.0f);
     CHECK(funnelivy_quality(ring, 4, 16, 5).refusal == 1);

@@ -51,11 +51,15 @@ static void layout_as_released(void) {
     SIZE(funnelivy_report_answer, 40)
     SIZE(funnelivy_sizes_answer, 24)
     SIZE(funnelivy_columns_answer, 16)
-    SIZE(funnelivy_window_answer, 24)
+    SIZE(funnelivy_window_answer, 32)
     SIZE(funnelivy_quality_answer, 8)
     SIZE(funnelivy_decision_answer, 8)
     SIZE(funnelivy_card, 56)
     SIZE(funnelivy_card_answer, 64)
+    /* These took bytes that were free, so that no size shows them. */
+    WHOLE(funnelivy_session, windows, 80, 2)
+    WHOLE(funnelivy_session, mode, 82, 1)
+    WHOLE(funnelivy_reading, windows, 68, 4)
 }
 
 void test_layout(void) {

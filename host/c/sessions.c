@@ -10,13 +10,15 @@ typedef struct {
     size_t capacity, samples, block;
 } setting;
 
-/* A pulse on each line of Robot 8 B/W (66.9 ms, 7 ms), from flag 500 on. */
-static void pulses(uint8_t *flags, size_t n) {
+/* A pulse of some flags on each line of Robot 8 B/W (66.9 ms, 7 ms), the first
+ * from a flag on. */
+static void pulses(uint8_t *flags, size_t n, size_t first, size_t pulse) {
     size_t line;
+    memset(flags, 0, n);
     for (line = 0; line < 120; line++) {
-        size_t from = 500 + (size_t)((double)line * 0.0669 * 11025.0 / 4.0);
-        if (from + 19 <= n) {
-            memset(flags + from, 1, 19);
+        size_t from = first + (size_t)((double)line * 0.0669 * 11025.0 / 4.0);
+        if (from + pulse <= n) {
+            memset(flags + from, 1, pulse);
         }
     }
 }
@@ -38,6 +40,13 @@ static void card_of(funnelivy_session session, uint8_t mode, funnelivy_reading r
     CHECK(same_card(funnelivy_read_card(bytes, sizeof bytes).card, c));
 }
 
+/* A record has a count of windows where it has a start, and read gives the same. */
+static int counted(funnelivy_session session, funnelivy_reading reading) {
+    int start = session.phase == 1 || session.phase == 2 || session.phase == 4;
+    return (start ? session.windows >= 1 && session.windows <= 700 : session.windows == 0) &&
+           reading.windows == (reading.refusal == 0 ? session.windows : 0);
+}
+
 /* Feeds until the session ends or the flags do. */
 static funnelivy_reading run(setting s, const uint8_t *flags, size_t n) {
     static const float first[4] = {0, 0, 0, 0};
@@ -49,8 +58,10 @@ static funnelivy_reading run(setting s, const uint8_t *flags, size_t n) {
     funnelivy_session session = opened.session;
     funnelivy_reading reading = funnelivy_read(session);
     size_t at = 0;
+    int right = 1;
     CHECK(opened.refusal == 0 && session.capacity == s.capacity && session.anchor == s.anchor);
     CHECK(reading.refusal == 11 && refused_card(funnelivy_session_card(session), 11));
+    CHECK(counted(session, reading));
     while (at < n && reading.refusal == 11) {
         size_t m = n - at < s.block ? n - at : s.block;
         funnelivy_fed fed =
@@ -63,7 +74,9 @@ static funnelivy_reading run(setting s, const uint8_t *flags, size_t n) {
         session = fed.session;
         at += (size_t)fed.taken;
         reading = funnelivy_read(session);
+        right &= counted(session, reading);
     }
+    CHECK(right);
     CHECK(reading.taken == at && memcmp(flag_store, flags, at) == 0);
     card_of(session, s.mode, reading);
     CHECK(funnelivy_feed(session, flag_store, s.capacity, sample_store, s.samples, img,
@@ -75,26 +88,43 @@ static funnelivy_reading run(setting s, const uint8_t *flags, size_t n) {
     return reading;
 }
 
-/* One picture, as the Rust answers it, from two anchors and in two cuts. */
-static void whole_session(void) {
-    size_t capacity = (size_t)(funnelivy_sizes(8).window + funnelivy_sizes(8).picture);
-    uint8_t *flags = (uint8_t *)memory(capacity);
+/* The same flags from two anchors and in two cuts. Gives what one of them reads. */
+static funnelivy_reading twice(const uint8_t *flags, size_t capacity) {
     setting one = {8, 0, 0, 0, 64};
     setting other = {8, 1000003, 0, 0, 1021};
     funnelivy_reading a, b;
     one.capacity = other.capacity = capacity;
-    pulses(flags, capacity);
     a = run(one, flags, capacity);
     b = run(other, flags, capacity);
-    CHECK(a.refusal == 0 && a.end == 0);
-    CHECK(a.taken == 22588 && a.evaluations == 3);
-    CHECK(a.start == 1843 && a.rate == 11025.0);
-    CHECK(a.has_slant == 1 && a.slant == 90.0 && a.skip == 158);
-    CHECK(a.start_quality == 0.91415524f && a.quality == 0.98070776f);
-    CHECK(b.start == a.start + 1000003);
+    CHECK(b.start == a.start + 1000003 && b.windows == a.windows);
     CHECK(b.taken == a.taken && b.evaluations == a.evaluations && b.rate == a.rate);
     CHECK(b.slant == a.slant && b.skip == a.skip && b.start_quality == a.start_quality);
     CHECK(b.end == a.end && b.has_slant == a.has_slant && b.quality == a.quality);
+    return a;
+}
+
+/* One picture, as the Rust answers it; one with pulses so long that windows tie; and
+ * one that comes too late. How many windows have the largest sum was counted over the
+ * columns of the evaluation that finds the start. */
+static void sessions_with_a_start(void) {
+    size_t capacity = (size_t)(funnelivy_sizes(8).window + funnelivy_sizes(8).picture);
+    uint8_t *flags = (uint8_t *)memory(capacity);
+    funnelivy_reading r;
+    pulses(flags, capacity, 500, 19);
+    r = twice(flags, capacity);
+    CHECK(r.refusal == 0 && r.end == 0);
+    CHECK(r.taken == 22588 && r.evaluations == 3);
+    CHECK(r.start == 1843 && r.windows == 1 && r.rate == 11025.0);
+    CHECK(r.has_slant == 1 && r.slant == 90.0 && r.skip == 158);
+    CHECK(r.start_quality == 0.91415524f && r.quality == 0.98070776f);
+    pulses(flags, capacity, 500, 90);
+    r = twice(flags, capacity);
+    CHECK(r.refusal == 0 && r.end == 0 && r.evaluations == 3);
+    CHECK(r.start == 1846 && r.windows == 266 && r.skip == 227);
+    pulses(flags, capacity, 12000, 90);
+    r = twice(flags, capacity);
+    CHECK(r.refusal == 0 && r.end == 2 && r.taken == capacity && r.evaluations == 154);
+    CHECK(r.start == 47846 && r.windows == 2 && r.skip == 0);
     free(flags);
 }
 
@@ -107,7 +137,7 @@ static void silent_session(void) {
     s.samples = 4 * capacity + 4;
     r = run(s, flags, capacity);
     CHECK(r.refusal == 0 && r.end == 1 && r.taken == capacity);
-    CHECK(r.evaluations == 99225 / 64 + 1 && r.start == 0);
+    CHECK(r.evaluations == 99225 / 64 + 1 && r.start == 0 && r.windows == 0);
     free(flags);
 }
 
@@ -137,8 +167,9 @@ static int same_session(funnelivy_session a, funnelivy_session b) {
     return a.anchor == b.anchor && a.capacity == b.capacity && a.taken == b.taken &&
            a.evaluations == b.evaluations && a.streak == b.streak && a.position == b.position &&
            a.rate == b.rate && a.slant == b.slant && a.skip == b.skip &&
-           a.start_quality == b.start_quality && a.quality == b.quality && a.mode == b.mode &&
-           a.phase == b.phase && a.has_slant == b.has_slant;
+           a.start_quality == b.start_quality && a.quality == b.quality &&
+           a.windows == b.windows && a.mode == b.mode && a.phase == b.phase &&
+           a.has_slant == b.has_slant;
 }
 
 /* The flags 0 to 99 of a picture, or 100 to the end, in one piece. */
@@ -148,6 +179,17 @@ static funnelivy_fed feed_part(funnelivy_session session, picture p, int second)
     return funnelivy_feed(session, p.flag_store, p.flags_len, p.sample_store, p.samples_len, img,
                           FUNNELIVY_IMAGE_BYTES, votes, FUNNELIVY_VOTE_CELLS, p.flags + from, n,
                           p.samples + 4 + 4 * from, 4 * n);
+}
+
+/* Read gives the count of any record, where the phase has a start. */
+static void readings_of_other_records(void) {
+    funnelivy_session s;
+    memset(&s, 0, sizeof s);
+    s.windows = UINT16_MAX;
+    for (s.phase = 0; s.phase < 6; s.phase++) {
+        uint32_t due = s.phase == 2 || s.phase == 4 ? UINT16_MAX : 0;
+        CHECK(funnelivy_read(s).windows == due);
+    }
 }
 
 /* A record that no call returned has a card too, which the writer refuses. */
@@ -198,6 +240,7 @@ static void refused_feed(void) {
     p.flags[200] = 0;
     fed = feed_part(kept, p, 1);
     CHECK(fed.refusal == 0 && fed.session.phase == 2 && fed.session.position == 944);
+    CHECK(fed.session.windows == 1 && counted(fed.session, funnelivy_read(fed.session)));
     CHECK(same_session(fed.session, feed_picture(open_picture(q).session, q).session));
     CHECK(same_session(funnelivy_open(16, 0, NULL, 0, NULL, 0, NULL, 0).session, none));
     free_picture(q);
@@ -242,9 +285,10 @@ static void empty_lists(void) {
 }
 
 void test_sessions(void) {
-    whole_session();
+    sessions_with_a_start();
     silent_session();
     sessions_refuse();
+    readings_of_other_records();
     cards_of_other_records();
     refused_feed();
     empty_lists();

@@ -13,8 +13,8 @@ use Rattle.c_answer.specs.declared.FunnelivyWindowAnswer.{FunnelivyWindo
 use Rattle.c_answer.specs.declared.FunnelivyQualityAnswer.{FunnelivyQualityAnswer}
 
 abbrev pub windowWire : WindowAnswer → FunnelivyWindowAnswer
-windowWire (window.Found best) = record { refusal = 0; start = best .start; sum = best .sum }
-windowWire (window.Refused k) = record { refusal = k; start = 0; sum = 0 }
+windowWire (window.Found best) = record { refusal = 0; start = best .start; sum = best .sum; windows = best .windows }
+windowWire (window.Refused k) = record { refusal = k; start = 0; sum = 0; windows = 0 }
 
 abbrev pub qualityWire : QualityAnswer → FunnelivyQualityAnswer
 qualityWire (quality.Quality q) = record { refusal = 0; quality = q }

@@ -16,11 +16,13 @@ pub fn window_wire(answer: WindowAnswer) -> FunnelivyWindowAnswer
             refusal: 0,
             start: best.start as u64,
             sum: best.sum,
+            windows: best.windows as u64,
         },
         WindowAnswer::Refused(number) => FunnelivyWindowAnswer {
             refusal: number as u32,
             start: 0,
             sum: 0,
+            windows: 0,
         },
     }
 }

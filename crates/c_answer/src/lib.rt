@@ -23,6 +23,7 @@ pub struct FunnelivyWindowAnswer {
     pub refusal: u32,
     pub start: u64,
     pub sum: u64,
+    pub windows: u64,
 }
 
 #[repr(C)]

@@ -21,7 +21,7 @@ abbrev pub slantOf : ℕ → Float → SlantDeg
 slantOf has slant = cond (eqb has 0) None (Degrees slant)
 
 abbrev pub startOf : FunnelivySession → Start
-startOf w = record { position = w .position; quality = w .«start_quality» }
+startOf w = record { position = w .position; quality = w .«start_quality»; windows = w .windows }
 
 abbrev pub reportOf : FunnelivySession → SyncResult
 reportOf w =
@@ -54,7 +54,7 @@ sessionOf w =
 -- ---- to the record
 
 abbrev pub noStart : Start
-noStart = record { position = 0; quality = fin false 0 (pos 0) }
+noStart = record { position = 0; quality = fin false 0 (pos 0); windows = 0 }
 
 abbrev pub noReport : SyncResult
 noReport =
@@ -79,6 +79,7 @@ wireBy number s start report =
       skip = report .«skip_samples»;
       «start_quality» = start .quality;
       quality = report .«sync_quality»;
+      windows = start .windows;
       mode = s .mode;
       phase = number;
       «has_slant» = hasSlant (report .«slant_deg»);
@@ -110,6 +111,7 @@ noSession =
       skip = pos 0;
       «start_quality» = fin false 0 (pos 0);
       quality = fin false 0 (pos 0);
+      windows = 0;
       mode = 0;
       phase = 0;
       «has_slant» = 0;

@@ -32,8 +32,8 @@ fedWire (fed.Refused k) = record { refusal = k; taken = 0; session = noSession }
 -- ---- read
 
 -- what only a report has is 0
-abbrev pub unreported : (refusal end taken evaluations start : ℕ) → Float → FunnelivyReading
-unreported refusal end taken evaluations start startQuality =
+abbrev pub unreported : (refusal end taken evaluations start windows : ℕ) → Float → FunnelivyReading
+unreported refusal end taken evaluations start windows startQuality =
     record {
       refusal = refusal;
       end = end;
@@ -46,11 +46,12 @@ unreported refusal end taken evaluations start startQuality =
       «start_quality» = startQuality;
       quality = fin false 0 (pos 0);
       «has_slant» = 0;
+      windows = windows;
     }
 
 -- 0 reported, 1 unfound, 2 cut short
 abbrev pub endWire : End → (taken evaluations : ℕ) → FunnelivyReading
-endWire (end.Reported start startQuality rate slant skip quality) taken evaluations =
+endWire (end.Reported start windows startQuality rate slant skip quality) taken evaluations =
     record {
       refusal = 0;
       end = 0;
@@ -63,10 +64,11 @@ endWire (end.Reported start startQuality rate slant skip quality) taken evaluati
       «start_quality» = startQuality;
       quality = quality;
       «has_slant» = hasSlant slant;
+      windows = windows;
     }
-endWire end.Unfound taken evaluations = unreported 0 1 taken evaluations 0 (fin false 0 (pos 0))
-endWire (end.CutShort start startQuality) taken evaluations = unreported 0 2 taken evaluations start startQuality
+endWire end.Unfound taken evaluations = unreported 0 1 taken evaluations 0 0 (fin false 0 (pos 0))
+endWire (end.CutShort start windows startQuality) taken evaluations = unreported 0 2 taken evaluations start windows startQuality
 
 abbrev pub readingWire : Given → FunnelivyReading
 readingWire (given.Gave g) = endWire (g .end) (g .taken) (g .evaluations)
-readingWire (given.Refused k) = unreported k 0 0 0 0 (fin false 0 (pos 0))
+readingWire (given.Refused k) = unreported k 0 0 0 0 0 (fin false 0 (pos 0))

@@ -55,9 +55,10 @@ fn unreported_wire(
     taken: u64,
     evaluations: u64,
     start: u64,
+    windows: u16,
     start_quality: f32,
 ) -> FunnelivyReading
-    ensures { λ r. ⌜ r ≡ unreported refusal end taken evaluations start «start_quality» ⌝ }
+    ensures { λ r. ⌜ r ≡ unreported refusal end taken evaluations start windows «start_quality» ⌝ }
 {
     FunnelivyReading {
         refusal: refusal,
@@ -71,6 +72,7 @@ fn unreported_wire(
         start_quality: start_quality,
         quality: 0.0,
         has_slant: 0,
+        windows: windows as u32,
     }
 }
 
@@ -83,6 +85,7 @@ fn end_wire(reading: Reading) -> FunnelivyReading
     match end {
         End::Reported {
             start,
+            windows,
             start_quality,
             rate,
             slant,
@@ -100,12 +103,14 @@ fn end_wire(reading: Reading) -> FunnelivyReading
             start_quality: start_quality,
             quality: quality,
             has_slant: c_answer::report::has_slant(slant) as u32,
+            windows: windows as u32,
         },
-        End::Unfound => unreported_wire(0, 1, taken, evaluations, 0, 0.0),
+        End::Unfound => unreported_wire(0, 1, taken, evaluations, 0, 0, 0.0),
         End::CutShort {
             start,
+            windows,
             start_quality,
-        } => unreported_wire(0, 2, taken, evaluations, start, start_quality),
+        } => unreported_wire(0, 2, taken, evaluations, start, windows, start_quality),
     }
 }
 
@@ -114,6 +119,6 @@ pub fn reading_wire(given: Given) -> FunnelivyReading
 {
     match given {
         Given::Gave(reading) => end_wire(reading),
-        Given::Refused(number) => unreported_wire(number as u32, 0, 0, 0, 0, 0.0),
+        Given::Refused(number) => unreported_wire(number as u32, 0, 0, 0, 0, 0, 0.0),
     }
 }

@@ -17,6 +17,7 @@ pub struct FunnelivySession {
     pub skip: i64,
     pub start_quality: f32,
     pub quality: f32,
+    pub windows: u16,
     pub mode: u8,
     pub phase: u8,
     pub has_slant: u8,
@@ -48,4 +49,5 @@ pub struct FunnelivyReading {
     pub start_quality: f32,
     pub quality: f32,
     pub has_slant: u32,
+    pub windows: u32,
 }

@@ -39,6 +39,7 @@ fn phase_of(w: FunnelivySession) -> Phase
     let start = Start {
         position: w.position,
         quality: w.start_quality,
+        windows: w.windows,
     };
     if phase == 0 {
         return Phase::Searching;
@@ -78,6 +79,7 @@ fn no_start() -> Start
     Start {
         position: 0,
         quality: 0.0,
+        windows: 0,
     }
 }
 
@@ -108,6 +110,7 @@ fn wire(phase: u8, s: Session, start: Start, report: SyncResult) -> FunnelivySes
         skip: report.skip_samples,
         start_quality: start.quality,
         quality: report.sync_quality,
+        windows: start.windows,
         mode: s.mode,
         phase: phase,
         has_slant: c_answer::report::has_slant(slant),
@@ -143,6 +146,7 @@ pub fn no_session() -> FunnelivySession
         skip: 0,
         start_quality: 0.0,
         quality: 0.0,
+        windows: 0,
         mode: 0,
         phase: 0,
         has_slant: 0,

@@ -33,6 +33,7 @@ use Rattle.plain.specs.Lists.{flagsTaken, listReads}
 use Rattle.plain.proofs.TwoLists.{silence}
 use Rattle.session.proofs.Demand3.{follows, as-plain, start-from-anchor, same-point}
 use Rattle.card.specs.Card as card
+use Rattle.ledger.specs.Entry.{pointLedger}
 use Rattle.ledger.specs.Back.{CardBack}
 use Rattle.ledger.proofs.ReadsBack.{session-card, no-card}
 use Rattle.c_record.specs.declared.FunnelivySession.{FunnelivySession}
@@ -61,10 +62,10 @@ fed-same w (fed.Refused k) code e =
     record { answer = simp some; next = simp some }
 
 gave-same : (e : End) (t n : ℕ) → readAnswer (endWire e t n) ≡ gave (record { stage = endStage e; taken = t; evaluations = n })
-gave-same (end.Reported x q rate None skip y) t n = refl
-gave-same (end.Reported x q rate (Degrees d) skip y) t n = refl
+gave-same (end.Reported x w q rate None skip y) t n = refl
+gave-same (end.Reported x w q rate (Degrees d) skip y) t n = refl
 gave-same end.Unfound t n = refl
-gave-same (end.CutShort x q) t n = refl
+gave-same (end.CutShort x w q) t n = refl
 
 -- read refuses with no number 0
 abbrev Numbered : Given → Type 0
@@ -201,7 +202,8 @@ module _ (mode anchor : ℕ) (st : List ℕ) (sm first sm₀ : List Float) where
       gave-point (readingPoint g) (pointOf q) (eqb (readCode (q .phase)) 0) (readCode (q .phase)) (rw (eq-eqb (g .refusal) 0 none) at said)
       ∙ sym (as-plain mode anchor st sm first sm₀ (f .session) (f .opened) (f .trace) .1)
 
-  -- Once read is not refused, the session has a card. It is written, reads back as the same answer, and says what read gives.
+  -- Once read is not refused, the session has a card. It is written, reads back as the same answer, and says what read gives,
+  -- without the count of windows.
   pub host-card : (o : FunnelivyOpened) → OpenedMeets mode anchor st sm first o sm₀ → o .refusal ≡ 0
       → {cs : List Call} {as' : List Answer} {z : FunnelivySession} {st' : List ℕ} {sm' : List Float} → HostTrace (o .session) st sm₀ cs as' z st' sm'
       → (g : FunnelivyReading) → ReadingMeets z g → g .refusal ≡ 0
@@ -216,5 +218,5 @@ module _ (mode anchor : ℕ) (st : List ℕ) (sm first sm₀ : List Float) where
         written = λ out size. ap writtenWire (b .written out size .0);
         back = λ out size. ap (λ (bytes : List ℕ). readWire (card.readAnswer bytes)) (b .written out size .1) ∙ ap readWire (b .back);
         mode = b .mode;
-        says = b .says ∙ sym (reading-point f g n none);
+        says = b .says ∙ ap pointLedger (sym (reading-point f g n none));
       })

@@ -1,5 +1,5 @@
 -- A session's card reads back as its report (02-change-requests.md, A.1): the card of every session that has ended is one that the writer
--- takes and the reader gives back, and it says the session's mode and point.
+-- takes and the reader gives back, and it says the session's mode and, without the count of windows, its point.
 -- Assumes nothing.
 use mathlib.Core.Path.{_≡_, refl, sym, _∙_, ap, ap₂, subst}
 use mathlib.Core.Bool.{true, false, false≢true}
@@ -19,7 +19,6 @@ use Rattle.plain.specs.declared.End.the-variants as end
 use Rattle.plain.specs.declared.Phase.{Phase}
 use Rattle.plain.specs.declared.Phase.the-variants.{Searching, Collecting, Reported, Unfound, CutShort}
 use Rattle.plain.specs.Plain.{Setup, Plain, endedPhase, opened}
-use Rattle.plain.specs.Point.{Stage, reported, cutShort, Point}
 use Rattle.plain.specs.Calls.{Call, Answer, runTo}
 use Rattle.plain.proofs.Lists.{run-setup}
 use Rattle.report_range.specs.Report.{Part, Rate, SoundReport, SoundPhase}
@@ -34,7 +33,8 @@ use Rattle.card.specs.Card.{within, positive, near, wrong}
 use Rattle.card.proofs.Accepted as accepted
 use Rattle.card.proofs.RoundTrip.{Typed, writes, written-reads-back}
 use Rattle.ledger.specs.declared.SessionCard.the-variants.{Of, Refused}
-use Rattle.ledger.specs.Ledger.{unreportedCard, endCard, cardGiven, sessionCard, cardPoint}
+use Rattle.ledger.specs.Ledger.{unreportedCard, endCard, cardGiven, sessionCard}
+use Rattle.ledger.specs.Entry.{Entry, reported, cutShort, Ledger, cardLedger, pointLedger}
 use Rattle.ledger.specs.Back.{CardBack}
 use Rattle.ledger.proofs.Slants.{index-free, index-small, slant-back}
 
@@ -56,15 +56,16 @@ small-skip : (z : ℤ) → natAbs z ≤ 2 ^ 29 → mag z < 2 ^ 63
 small-skip (pos n) h = omega arith
 small-skip (negsuc n) h = omega arith
 
-back-by : (z : Session) (c : Card) → Typed c → wrong c ≡ false → sessionCard z ≡ Of c → cardPoint c ≡ sessionPoint z → CardBack (c .mode) z
+back-by : (z : Session) (c : Card) → Typed c → wrong c ≡ false → sessionCard z ≡ Of c → cardLedger c ≡ pointLedger (sessionPoint z) → CardBack (c .mode) z
 back-by z c typed w given says =
     record { card = c; given = given; written = λ out n. writes c out n w; back = written-reads-back c typed w; mode = refl; says = says }
 
 -- ---- the card of a record that has ended
 
+-- of a report with any count of windows, which no card has
 abbrev reportedCard : ℕ → ℕ → ℕ → ℕ → Float → SyncResult → Card
 reportedCard mode taken evaluations start q y =
-    endCard mode (end.Reported start q (y .«adjusted_rate_hz») (y .«slant_deg») (y .«skip_samples») (y .«sync_quality»)) taken evaluations
+    endCard mode (end.Reported start 0 q (y .«adjusted_rate_hz») (y .«slant_deg») (y .«skip_samples») (y .«sync_quality»)) taken evaluations
 
 module _ (z : Session) (s : Sane z) where
   few : (z .mode < 256) × (z .taken < 2 ^ 64) × (z .evaluations < 2 ^ 64)
@@ -113,8 +114,8 @@ no-wrap a b ha hb = (omega arith, omega arith)
 abbrev inPhase : ℕ → ℕ → ℕ → ℕ → ℕ → ℕ → Phase → Session
 inPhase m a k t e r h = record { mode = m; anchor = a; capacity = k; taken = t; evaluations = e; streak = r; phase = h }
 
-abbrev pointAt : Stage → ℕ → ℕ → Point
-pointAt stage taken evaluations = record { stage = stage; taken = taken; evaluations = evaluations }
+abbrev ledgerAt : Entry → ℕ → ℕ → Ledger
+ledgerAt entry taken evaluations = record { entry = entry; taken = taken; evaluations = evaluations }
 
 card-back : (m a k t e r : ℕ) (h : Phase) → Sane (inPhase m a k t e r h) → SoundPhase h → endedPhase h ≡ true → CardBack m (inPhase m a k t e r h)
 card-back m a k t e r Searching s p ended = absurd (false≢true ended)
@@ -123,11 +124,11 @@ card-back m a k t e r (Reported x y) s p ended =
     let z : Session = inPhase m a k t e r (Reported x y) in
     let c : Card = reportedCard m t e (startOf a x) (x .quality) y in
     let start = no-wrap a (x .position) (s .anchor) (s .near) in
-    back-by z c (typed-report z s (startOf a x) (x .quality) y (start .1) (p .0 .fits) (p .1))
-    (accepted.reported c (s .mode) refl (index-free (y .«slant_deg») (p .1 .slant)) (within-part (x .quality) (p .0)) (within-part (y .«sync_quality») (p .1 .quality))
+    back-by z c (typed-report z s (startOf a x) (x .quality) y (start .1) (p .0 .quality .fits) (p .1))
+    (accepted.reported c (s .mode) refl (index-free (y .«slant_deg») (p .1 .slant)) (within-part (x .quality) (p .0 .quality)) (within-part (y .«sync_quality») (p .1 .quality))
     (positive-rate (y .«adjusted_rate_hz») (p .1 .rate)) (near-skip (y .«skip_samples») (p .1 .skip)))
     refl
-    (ap₂ (λ (n : ℕ) (d : SlantDeg). pointAt (reported n (x .quality) (y .«adjusted_rate_hz») d (y .«skip_samples») (y .«sync_quality»)) t e)
+    (ap₂ (λ (n : ℕ) (d : SlantDeg). ledgerAt (reported n (x .quality) (y .«adjusted_rate_hz») d (y .«skip_samples») (y .«sync_quality»)) t e)
     (start .0) (slant-back (y .«slant_deg») (p .1 .slant)))
 card-back m a k t e r Unfound s p ended =
     let z : Session = inPhase m a k t e r Unfound in
@@ -140,10 +141,10 @@ card-back m a k t e r (CutShort x) s p ended =
     let z : Session = inPhase m a k t e r (CutShort x) in
     let c : Card = unreportedCard m 2 t e (startOf a x) (x .quality) in
     let start = no-wrap a (x .position) (s .anchor) (s .near) in
-    back-by z c (typed z s 2 (startOf a x) (x .quality) (lit< tt) (start .1) (p .fits))
-    (accepted.cut-short c (s .mode) refl refl refl refl refl (within-part (x .quality) p))
+    back-by z c (typed z s 2 (startOf a x) (x .quality) (lit< tt) (start .1) (p .quality .fits))
+    (accepted.cut-short c (s .mode) refl refl refl refl refl (within-part (x .quality) (p .quality)))
     refl
-    (ap (λ (n : ℕ). pointAt (cutShort n (x .quality)) t e) (start .0))
+    (ap (λ (n : ℕ). ledgerAt (cutShort n (x .quality)) t e) (start .0))
 
 -- ---- of a session
 

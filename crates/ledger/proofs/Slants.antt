@@ -13,7 +13,8 @@ use Rattle.hough.specs.declared.SlantDeg.the-variants.{None, Degrees}
 use Rattle.hough.specs.Pass.{angleOf}
 use Rattle.report_range.specs.Report.{Listed, none, angle}
 use Rattle.card.specs.Card.{between}
-use Rattle.ledger.specs.Ledger.{slantIndex, cardSlant}
+use Rattle.ledger.specs.Ledger.{slantIndex}
+use Rattle.ledger.specs.Entry.{cardSlant}
 
 -- the index of the angle of q is q
 abbrev indexed : ℕ → Bool

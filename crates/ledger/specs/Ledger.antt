@@ -1,7 +1,7 @@
--- The card of a session, and what a card says (02-change-requests.md, A.1). Definitions only.
+-- The card of a session (02-change-requests.md, A.1). Definitions only.
 use Prim.Native.Nat.{ℕ}
 use mathlib.Core.Bool.{false, cond, _&&_}
-use lib.Dec.{ltb, eqb}
+use lib.Dec.{ltb}
 use lib.IntN.{pos}
 use lib.Ieee.{Float, fin, binary64, sub, mul, eq, toUnsigned}
 use Rattle.ieee.specs.Numbers.{ofNat}
@@ -11,7 +11,6 @@ use Rattle.hough.specs.Pass.{angleOf}
 use Rattle.plain.specs.declared.End.{End}
 use Rattle.plain.specs.declared.End.the-variants as end
 use Rattle.plain.specs.declared.Reading.{Reading}
-use Rattle.plain.specs.Point.{Point, Stage, reported, unfound, cutShort}
 use Rattle.session.specs.declared.Session.{Session}
 use Rattle.session.specs.declared.Given.{Given}
 use Rattle.session.specs.declared.Given.the-variants as given
@@ -19,8 +18,6 @@ use Rattle.session.specs.Hold.{givenBy}
 use Rattle.card.specs.declared.Card.{Card}
 use Rattle.ledger.specs.declared.SessionCard.{SessionCard}
 use Rattle.ledger.specs.declared.SessionCard.the-variants as card
-
--- ---- the card
 
 -- q, if the angle is that of q; else 254, which no card may hold. A session's slant is always one of the 240 angles.
 abbrev pub indexAt : ℕ → Float → ℕ
@@ -47,9 +44,9 @@ unreportedCard mode end taken evaluations start startQuality =
       quality = fin false 0 (pos 0);
     }
 
--- by the end: 0 reported, 1 unfound, 2 cut short
+-- by the end: 0 reported, 1 unfound, 2 cut short. A card lacks the count of windows (02-change-requests.md, A.3).
 abbrev pub endCard : ℕ → End → ℕ → ℕ → Card
-endCard mode (end.Reported start startQuality rate slant skip quality) taken evaluations =
+endCard mode (end.Reported start windows startQuality rate slant skip quality) taken evaluations =
     record {
       mode = mode;
       end = 0;
@@ -63,7 +60,7 @@ endCard mode (end.Reported start startQuality rate slant skip quality) taken eva
       quality = quality;
     }
 endCard mode end.Unfound taken evaluations = unreportedCard mode 1 taken evaluations 0 (fin false 0 (pos 0))
-endCard mode (end.CutShort start startQuality) taken evaluations = unreportedCard mode 2 taken evaluations start startQuality
+endCard mode (end.CutShort start windows startQuality) taken evaluations = unreportedCard mode 2 taken evaluations start startQuality
 
 -- of what a read gave
 abbrev pub cardBy : ℕ → Reading → Card
@@ -76,16 +73,3 @@ cardGiven mode (given.Refused k) = card.Refused k
 
 abbrev pub sessionCard : Session → SessionCard
 sessionCard s = cardGiven (s .mode) (givenBy (s .phase) s)
-
--- ---- what a card says
-
-abbrev pub cardSlant : ℕ → SlantDeg
-cardSlant q = cond (eqb q 255) None (Degrees (angleOf q))
-
-abbrev pub cardStage : Card → Stage
-cardStage c =
-    cond (eqb (c .end) 0) (reported (c .start) (c .«start_quality») (c .rate) (cardSlant (c .slant)) (c .skip) (c .quality))
-    (cond (eqb (c .end) 1) unfound (cutShort (c .start) (c .«start_quality»)))
-
-abbrev pub cardPoint : Card → Point
-cardPoint c = record { stage = cardStage c; taken = c .taken; evaluations = c .evaluations }

@@ -37,7 +37,7 @@ fn slant_index(slant: SlantDeg) -> u8
     }
 }
 
-// The card of what a read gave. What the end lacks is zero, the slant 255.
+// The card of what a read gave. What the end lacks is zero, the slant 255; the count of windows has no place on it.
 pub fn card_of(mode: u8, reading: Reading) -> Card
     ensures { λ r. ⌜ r ≡ cardBy mode reading ⌝ }
 {
@@ -47,6 +47,7 @@ pub fn card_of(mode: u8, reading: Reading) -> Card
     match end {
         End::Reported {
             start,
+            windows: _,
             start_quality,
             rate,
             slant,
@@ -67,6 +68,7 @@ pub fn card_of(mode: u8, reading: Reading) -> Card
         End::Unfound => unreported(mode, 1, taken, evaluations, 0, 0.0),
         End::CutShort {
             start,
+            windows: _,
             start_quality,
         } => unreported(mode, 2, taken, evaluations, start, start_quality),
     }

@@ -7,8 +7,9 @@ ghost use lib.Dec.{leb};
 ghost use lib.ListN.{length, getD};
 ghost use lib.Signed.{mag};
 ghost use Rattle.pulse.specs.Sums.{sumFrom, largest, FirstLargest};
-ghost use Rattle.pulse.specs.PulseWindow.{windowSum, bestWindow, betterOf, windowAnswer};
+ghost use Rattle.pulse.specs.PulseWindow.{windowSum, bestWindow, windowAnswer};
 ghost use Rattle.pulse.specs.Edge.{fallAt, slipped, edgeOf, edgeAnswer};
+ghost use Rattle.pulse.specs.Steps.{betterOf, steeperOf};
 ghost use Rattle.pulse.specs.Sliding.{differenceAt, slidBy, notNegative};
 ghost use Rattle.pulse.specs.Median.{medianOf, countAtMost};
 ghost use Rattle.pulse.specs.Quality.{PulseFits, qualityBy, qualityOf, qualityAnswer};
@@ -16,10 +17,17 @@ ghost use Rattle.limits.specs.Ranges.{allAtMost};
 ghost use Rattle.modespec.specs.Sizes.{pulseColumns};
 use modespec::ModeSpec;
 
-// A window's first place, and the sum of its counts.
+// The first of the windows with the largest sum, that sum, and how many windows have it.
 pub struct BestWindow {
     pub start: usize,
     pub sum: u64,
+    pub windows: usize,
+}
+
+// The first of the places with the largest fall, and that fall.
+pub struct FallingPlace {
+    pub at: usize,
+    pub fall: u64,
 }
 
 // The answer of `best_pulse_window`.
@@ -73,26 +81,41 @@ fn next_sum(counts: &[u32], width: usize, start: usize, sum: u64) -> u64
     sum + counts[enters] as u64 - counts[start - 1] as u64
 }
 
-// The window at `start` where its sum is larger than the best before it.
+// With the window at `start`: it is the only one where its sum is larger than the best before it, and one more where it is the same.
 fn better(best: BestWindow, start: usize, sum: u64) -> BestWindow
+    requires { ⌜ best .windows ≤ 65536 ⌝ }
     ensures { λ r. ⌜ r ≡ betterOf best start sum ⌝ }
 {
     if sum > best.sum {
-        BestWindow { start, sum }
-    } else {
-        best
+        return BestWindow {
+            start,
+            sum,
+            windows: 1,
+        };
     }
+    if sum == best.sum {
+        return BestWindow {
+            start: best.start,
+            sum,
+            windows: best.windows + 1,
+        };
+    }
+    best
 }
 
 // ---- the pulse window
 
-// The first of the windows with the largest sum, in a ring of counts.
+// The first of the windows with the largest sum, in a ring of counts, and how many there are.
 pub fn best_window(counts: &[u32], width: usize) -> BestWindow
     requires { ⌜ (length (now counts) ≤ 65536) × (1 ≤ width) × (width ≤ length (now counts)) ⌝ }
     ensures { λ r. ⌜ r ≡ bestWindow (now (counts .entry)) width ⌝ }
 {
     let mut sum = sum_from(counts, 0, width);
-    let mut best = BestWindow { start: 0, sum };
+    let mut best = BestWindow {
+        start: 0,
+        sum,
+        windows: 1,
+    };
     let mut start: usize = 1;
     while start < counts.len() {
         sum = next_sum(counts, width, start, sum);
@@ -236,20 +259,31 @@ fn clipped(difference: i64) -> u64
     if difference < 0 { 0 } else { difference as u64 }
 }
 
+// The place `at` where its fall is larger than the steepest before it.
+fn steeper(best: FallingPlace, at: usize, fall: u64) -> FallingPlace
+    ensures { λ r. ⌜ r ≡ steeperOf best at fall ⌝ }
+{
+    if fall > best.fall {
+        FallingPlace { at, fall }
+    } else {
+        best
+    }
+}
+
 // The first of the 692 places with the largest fall; the difference is a running value.
-fn steepest(counts: &[u32]) -> BestWindow
+fn steepest(counts: &[u32]) -> FallingPlace
     requires { ⌜ length (now counts) ≡ 700 ⌝ }
-    ensures { λ r. ⌜ FirstLargest (fallAt (now (counts .entry))) 692 (r .start) (r .sum) ⌝ }
+    ensures { λ r. ⌜ FirstLargest (fallAt (now (counts .entry))) 692 (r .at) (r .fall) ⌝ }
 {
     let mut difference = first_difference(counts);
-    let mut best = BestWindow {
-        start: 0,
-        sum: clipped(difference),
+    let mut best = FallingPlace {
+        at: 0,
+        fall: clipped(difference),
     };
     let mut x: usize = 1;
     while x < 692 {
         difference = next_difference(counts, x, difference);
-        best = better(best, x, clipped(difference));
+        best = steeper(best, x, clipped(difference));
         x += 1;
     }
     best
@@ -268,11 +302,7 @@ pub fn falling_edge(counts: &[u32]) -> usize
     ensures { λ r. ⌜ r ≡ edgeOf (now (counts .entry)) ⌝ }
 {
     let best = steepest(counts);
-    if best.sum == 0 {
-        0
-    } else {
-        slip(best.start + 4)
-    }
+    if best.fall == 0 { 0 } else { slip(best.at + 4) }
 }
 
 // Whether no count is above `most`.

@@ -1,7 +1,7 @@
 // Replays the Rust's answers to the calls on a fold's counts. The file `vectors` has long records, whose payload is the list
 // of counts: as they are where c is 0, else as pairs of a count and how often it stands.
-// Operation 0: the best window of width a has the start x and the sum y. Operation 1: the quality in mode a over b lines has
-// the pattern x, or is refused with 9 where b is above 65,536. Operation 2: the falling edge is column x.
+// Operation 0: the best window of width a has the start x and the sum y, which z windows have. Operation 1: the quality in mode a
+// over b lines has the pattern x, or is refused with 9 where b is above 65,536. Operation 2: the falling edge is column x.
 use pulse::EdgeAnswer;
 use pulse::QualityAnswer;
 use pulse::WindowAnswer;
@@ -38,9 +38,11 @@ fn spread(pairs: &[u8], out: &mut [u32]) -> usize
     at
 }
 
-fn window_right(counts: &[u32], width: u64, start: u64, sum: u64) -> bool {
+fn window_right(counts: &[u32], width: u64, start: u64, sum: u64, windows: u64) -> bool {
     match pulse::best_pulse_window(counts, width as usize) {
-        WindowAnswer::Found(w) => w.start as u64 == start && w.sum == sum,
+        WindowAnswer::Found(w) => {
+            w.start as u64 == start && w.sum == sum && w.windows as u64 == windows
+        }
         WindowAnswer::Refused(_) => false,
     }
 }
@@ -63,9 +65,9 @@ fn edge_right(counts: &[u32], column: u64) -> bool {
 }
 
 // Whether operation `op` gives the answer expected. An operation that there is not gives none.
-fn right(op: u64, a: u64, b: u64, x: u64, y: u64, counts: &[u32]) -> bool {
+fn right(op: u64, a: u64, b: u64, x: u64, y: u64, z: u64, counts: &[u32]) -> bool {
     match op {
-        0 => window_right(counts, a, x, y),
+        0 => window_right(counts, a, x, y, z),
         1 => quality_right(counts, a, b, x),
         2 => edge_right(counts, x),
         _ => false,
@@ -80,15 +82,16 @@ fn payload_right(
     c: u64,
     x: u64,
     y: u64,
+    z: u64,
     bytes: &[u8],
     counts: &mut [u32],
 ) -> bool {
     if c == 0 {
         let n = replay::half_words(bytes, counts);
-        right(op, a, b, x, y, &counts[..n])
+        right(op, a, b, x, y, z, &counts[..n])
     } else {
         let n = spread(bytes, counts);
-        right(op, a, b, x, y, &counts[..n])
+        right(op, a, b, x, y, z, &counts[..n])
     }
 }
 
@@ -101,11 +104,12 @@ fn answered(
     c: u64,
     x: u64,
     y: u64,
+    z: u64,
     bytes: &mut [u8],
     counts: &mut [u32],
 ) -> bool {
     if replay::payload(fd, bytes) {
-        payload_right(op, a, b, c, x, y, bytes, counts)
+        payload_right(op, a, b, c, x, y, z, bytes, counts)
     } else {
         false
     }
@@ -123,7 +127,7 @@ fn one(fd: i32, t: Tally, bytes: &mut [u8], counts: &mut [u32]) -> Tally {
             c,
             x,
             y,
-            z: _,
+            z,
             n,
         } => {
             let size: usize = n as usize;
@@ -133,7 +137,7 @@ fn one(fd: i32, t: Tally, bytes: &mut [u8], counts: &mut [u32]) -> Tally {
             tally::counted(
                 t,
                 op,
-                answered(fd, op, a, b, c, x, y, &mut bytes[..size], counts),
+                answered(fd, op, a, b, c, x, y, z, &mut bytes[..size], counts),
             )
         }
     }

@@ -1,10 +1,10 @@
--- What a session's report can hold, along a list of calls on the plain session (02-change-requests.md, A.1): a feed that is not refused
--- has flags of 0 and 1 alone, so each quality and report is one of theirs.
+-- What a session's start and report can hold, along a list of calls on the plain session (02-change-requests.md, A.1, A.3): a feed that is not
+-- refused has flags of 0 and 1 alone, so each quality, count and report is one of theirs.
 -- Assumes nothing.
 use mathlib.Core.Path.{_≡_, refl, sym, _∙_, ap, ap₂, subst}
 use mathlib.Core.Bool.{Bool, true, false, cond, _||_}
 use mathlib.Core.List.{List, [], _∷_, _++_}
-use Prim.Native.Nat.{ℕ}
+use Prim.Native.Nat.{ℕ, _≤_}
 use lib.ListN.{length, take, drop, take-append-drop}
 use lib.Dec.{eqb}
 use lib.Ieee.{Float}
@@ -23,6 +23,7 @@ use Rattle.plain.proofs.Codes.{code-parts}
 use Rattle.plain.proofs.Cuts.{above-append, clean-of}
 use Rattle.plain.proofs.Laws.{through-nil, through-cons}
 use Rattle.plain.proofs.Lists.{step-ended, step-live, run-through}
+use Rattle.sync_start.proofs.Evaluations.{start-windows}
 use Rattle.report_range.specs.Report.{Part, SoundPhase}
 use Rattle.report_range.proofs.QualityRange.{window-part}
 use Rattle.report_range.proofs.Report.{report-sound}
@@ -74,15 +75,16 @@ evaluation-part mode j flags samples streak = window-part mode j (take (takenAt 
 abbrev Sound : Plain → Type 0
 Sound p = Low (p .flags) × SoundPhase (p .phase)
 
-found-sound : (l : Located) (q : Float) → Part q → SoundPhase (foundPhase l q)
-found-sound Nowhere q h = tt
-found-sound (At x) q h = h
+found-sound : (l : Located) (q : Float) → Part q → ((x w : ℕ) → l ≡ At x w → (1 ≤ w) × (w ≤ 700)) → SoundPhase (foundPhase l q)
+found-sound Nowhere q h k = tt
+found-sound (At x w) q h k = record { quality = h; some = k x w refl .0; most = k x w refl .1 }
 
 evaluating-sound : (h : Phase) (p : Plain) → Sound p → Sound (evaluatingBy h p)
 evaluating-sound Searching p s = go (dueAt (p .setup .mode) (length (p .flags)))
   where
     go : (b : Bool) → Sound (cond b (evaluatedBy p (evaluationAt p)) p)
-    go true = (s .0, found-sound (evaluationAt p .start) (evaluationAt p .quality) (evaluation-part (p .setup .mode) _ (p .flags) (p .samples) (p .streak)))
+    go true =
+        (s .0, found-sound (evaluationAt p .start) (evaluationAt p .quality) (evaluation-part (p .setup .mode) _ (p .flags) (p .samples) (p .streak)) (start-windows (p .setup .mode) _ (p .flags) (p .samples) (p .streak)))
     go false = s
 evaluating-sound (Collecting x) p s = s
 evaluating-sound (Reported x r) p s = s

@@ -1,4 +1,5 @@
--- What a session's report can hold (02-change-requests.md, A.1): each field of it is one that a card may have. Definitions only.
+-- What a session's start and report can hold (02-change-requests.md, A.1, A.3): each field is one that a card may have, and the count beside a start is
+-- from 1 to 700. Definitions only.
 use Prim.Native.Nat.{ℕ, _^_, _≤_, _<_}
 use mathlib.Core.Bool.{false}
 use lib.Dec.{T}
@@ -9,6 +10,7 @@ use Rattle.hough.specs.declared.SlantDeg.{SlantDeg}
 use Rattle.hough.specs.declared.SlantDeg.the-variants.{None, Degrees}
 use Rattle.hough.specs.Pass.{angleOf}
 use Rattle.sync.specs.declared.SyncResult.{SyncResult}
+use Rattle.plain.specs.declared.Start.{Start}
 use Rattle.plain.specs.declared.Phase.{Phase}
 use Rattle.plain.specs.declared.Phase.the-variants.{Searching, Collecting, Reported, Unfound, CutShort}
 
@@ -37,10 +39,16 @@ pub record SoundReport (r : SyncResult) : Type 0 where
   pub skip : natAbs (r .«skip_samples») ≤ 2 ^ 29
   pub quality : Part (r .«sync_quality»)
 
--- of a phase: the start's quality and the report, where it has them
+-- a start: its quality, and how many of 700 windows have the largest sum
+pub record SoundStart (s : Start) : Type 0 where
+  pub quality : Part (s .quality)
+  pub some : 1 ≤ s .windows
+  pub most : s .windows ≤ 700
+
+-- of a phase: the start and the report, where it has them
 abbrev pub SoundPhase : Phase → Type 0
 SoundPhase Searching = Unit
-SoundPhase (Collecting s) = Part (s .quality)
-SoundPhase (Reported s r) = Part (s .quality) × SoundReport r
+SoundPhase (Collecting s) = SoundStart s
+SoundPhase (Reported s r) = SoundStart s × SoundReport r
 SoundPhase Unfound = Unit
-SoundPhase (CutShort s) = Part (s .quality)
+SoundPhase (CutShort s) = SoundStart s

@@ -118,9 +118,9 @@ heard mode j taken k streak fl sm known e h = go (robot mode) refl
         ap (λ (l : List Float). evaluationOf mode j fl l streak) (ap (λ (i : ℕ). take i sm) n ∙ sym (h r))
     go false r = other-modes mode j fl (take k sm) known streak r
 
-found-near : (l : Located) (q : Float) → ((x : ℕ) → l ≡ At x → x ≤ 2 ^ 62) → positionOf (foundPhase l q) ≤ 2 ^ 62
+found-near : (l : Located) (q : Float) → ((x w : ℕ) → l ≡ At x w → x ≤ 2 ^ 62) → positionOf (foundPhase l q) ≤ 2 ^ 62
 found-near Nowhere q h = omega arith
-found-near (At x) q h = h x refl
+found-near (At x w) q h = h x w refl
 
 pub search-done : (s : Session) (st : List ℕ) (sm : List Float) (made : Evaluation) (next : Phase) (k j : ℕ)
     → s .phase ≡ Searching → s .mode ≤ 15 → s .taken ≤ length st → s .taken ≤ 16777216 → s .streak ≤ s .evaluations
@@ -132,8 +132,8 @@ pub search-done : (s : Session) (st : List ℕ) (sm : List Float) (made : Evalua
 unfolding evaluating
 search-done s st sm made next k j e low fits small h due hj hk hm hn =
     let grown : made .streak ≤ s .streak + 1 = rw hm (streak-step (s .mode) j (take (s .taken) st) (take k sm) (s .streak)) in
-    let place : (x : ℕ) → made .start ≡ At x → x ≤ 2 ^ 62 =
-    λ x p. position-small (s .mode) j (take (s .taken) st) (take k sm) (s .streak) x low (omega arith) (ap (λ (v : Evaluation). v .start) (sym hm) ∙ p) in
+    let place : (x w : ℕ) → made .start ≡ At x w → x ≤ 2 ^ 62 =
+    λ x w p. position-small (s .mode) j (take (s .taken) st) (take k sm) (s .streak) x w low (omega arith) (ap (λ (v : Evaluation). v .start) (sym hm) ∙ p) in
     record {
       kept = record { mode = refl; anchor = refl; capacity = refl; taken = refl };
       plain = λ known hear.

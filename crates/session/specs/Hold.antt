@@ -140,9 +140,9 @@ abbrev pub givenBy : Phase → Session → Given
 givenBy Searching s = given.Refused 11
 givenBy (Collecting x) s = given.Refused 11
 givenBy (Reported x r) s =
-    reading s (end.Reported (startOf (s .anchor) x) (x .quality) (r .«adjusted_rate_hz») (r .«slant_deg») (r .«skip_samples») (r .«sync_quality»))
+    reading s (end.Reported (startOf (s .anchor) x) (x .windows) (x .quality) (r .«adjusted_rate_hz») (r .«slant_deg») (r .«skip_samples») (r .«sync_quality»))
 givenBy Unfound s = reading s end.Unfound
-givenBy (CutShort x) s = reading s (end.CutShort (startOf (s .anchor) x) (x .quality))
+givenBy (CutShort x) s = reading s (end.CutShort (startOf (s .anchor) x) (x .windows) (x .quality))
 
 -- an answer by its number and values
 abbrev pub givenOf : Given → Answer

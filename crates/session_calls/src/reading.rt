@@ -1,9 +1,9 @@
-// What a read gives, against the eight words of a record's payload.
+// What a read gives, against the nine words of a record's payload.
 use hough::SlantDeg;
 use plain::End;
 use plain::Reading;
 
-// Word k of a reading's eight.
+// Word k of a reading's nine.
 fn word(words: &[u8], k: usize) -> u64 {
     if k < words.len() / 8 {
         return replay::word(words, 8 * k);
@@ -24,17 +24,18 @@ fn slant_is(slant: SlantDeg, bits: u64) -> bool {
 
 // Whether the words from number k on are 0, as they are of what an end lacks.
 fn no_more(words: &[u8], k: usize) -> bool {
-    (k > 2 || (word(words, 2) == 0 && word(words, 3) == 0))
-        && word(words, 4) == 0
+    (k > 2 || (word(words, 2) == 0 && word(words, 3) == 0 && word(words, 4) == 0))
         && word(words, 5) == 0
         && word(words, 6) == 0
         && word(words, 7) == 0
+        && word(words, 8) == 0
 }
 
 fn end_is(end: End, y: u64, words: &[u8]) -> bool {
     match end {
         End::Reported {
             start,
+            windows,
             start_quality,
             rate,
             slant,
@@ -43,21 +44,24 @@ fn end_is(end: End, y: u64, words: &[u8]) -> bool {
         } => {
             y == 0
                 && start == word(words, 2)
-                && float_is(words, 3, start_quality)
-                && replay::same_bits(rate, word(words, 4))
-                && slant_is(slant, word(words, 5))
-                && replay::signed_bits(skip) == word(words, 6)
-                && float_is(words, 7, quality)
+                && windows as u64 == word(words, 3)
+                && float_is(words, 4, start_quality)
+                && replay::same_bits(rate, word(words, 5))
+                && slant_is(slant, word(words, 6))
+                && replay::signed_bits(skip) == word(words, 7)
+                && float_is(words, 8, quality)
         }
         End::Unfound => y == 1 && no_more(words, 2),
         End::CutShort {
             start,
+            windows,
             start_quality,
         } => {
             y == 2
                 && start == word(words, 2)
-                && float_is(words, 3, start_quality)
-                && no_more(words, 4)
+                && windows as u64 == word(words, 3)
+                && float_is(words, 4, start_quality)
+                && no_more(words, 5)
         }
     }
 }

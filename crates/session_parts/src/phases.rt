@@ -54,9 +54,10 @@ pub fn found(located: Located, quality: f32) -> Phase
 {
     match located {
         Located::Nowhere => Phase::Searching,
-        Located::At(x) => Phase::Collecting(Start {
+        Located::At(x, windows) => Phase::Collecting(Start {
             position: x,
             quality: quality,
+            windows: windows,
         }),
     }
 }
@@ -114,11 +115,12 @@ pub fn start_of(anchor: u64, s: Start) -> u64
 
 // What a read gives of a reported session.
 pub fn reported(anchor: u64, s: Start, r: SyncResult) -> End
-    ensures { λ e. ⌜ e ≡ End.Reported (startOf anchor s) (s .quality) (r .«adjusted_rate_hz») (r .«slant_deg») (r .«skip_samples») (r .«sync_quality») ⌝ }
+    ensures { λ e. ⌜ e ≡ End.Reported (startOf anchor s) (s .windows) (s .quality) (r .«adjusted_rate_hz») (r .«slant_deg») (r .«skip_samples») (r .«sync_quality») ⌝ }
 {
     let slant = r.slant_deg;
     End::Reported {
         start: start_of(anchor, s),
+        windows: s.windows,
         start_quality: s.quality,
         rate: r.adjusted_rate_hz,
         slant: slant,
@@ -129,10 +131,11 @@ pub fn reported(anchor: u64, s: Start, r: SyncResult) -> End
 
 // What a read gives of a session cut short.
 pub fn cut_short(anchor: u64, s: Start) -> End
-    ensures { λ e. ⌜ e ≡ End.CutShort (startOf anchor s) (s .quality) ⌝ }
+    ensures { λ e. ⌜ e ≡ End.CutShort (startOf anchor s) (s .windows) (s .quality) ⌝ }
 {
     End::CutShort {
         start: start_of(anchor, s),
+        windows: s.windows,
         start_quality: s.quality,
     }
 }

@@ -20,13 +20,12 @@ use Rattle.hough.specs.declared.SlantDeg.the-variants as SlantDeg
 use Rattle.hough.specs.Pass.{passOf}
 use Rattle.hough.specs.Passes.{passesFrom, passesOf}
 use Rattle.hough.proofs.Meaning.{zero-flags}
-use Rattle.pulse.specs.declared.BestWindow.{BestWindow}
 use Rattle.pulse.specs.PulseWindow.{windowSum, bestWindow}
 use Rattle.pulse.specs.Median.{medianOf, countAtMost}
 use Rattle.pulse.specs.Edge.{fallAt, edgeOf}
 use Rattle.pulse.specs.Quality.{qualityBy, qualityOf}
 use Rattle.pulse.proofs.Sums.{sum-below}
-use Rattle.pulse.proofs.Largest.{best-is}
+use Rattle.pulse.proofs.Largest.{best-sum}
 use Rattle.pulse.proofs.Sorting.{count-all, median-is}
 use Rattle.pulse.proofs.Answers.{edge-none, quality-some}
 use Rattle.sync.specs.Fold.{lineSeconds, columnSeconds, flagAt, foldFlag, columnCount, foldOf}
@@ -94,9 +93,7 @@ module _ (counts : List ℕ) (size : length counts ≡ 700) (z : (x : ℕ) → g
   best-zeros : (width : ℕ) → 0 ≡ bestWindow counts width .sum
   best-zeros width =
       let f : (x : ℕ) → windowSum counts width x ≤ 0 = λ x. omega (arith, sum-below (λ k. getD counts (k % length counts) 0) 0 x width (λ k. z (k % length counts))) in
-      ap (λ (b : BestWindow). b .sum)
-      (best-is counts width (record { start = 0; sum = 0 })
-      (record { within = omega (arith, size); reached = omega (arith, f 0); highest = λ k l. f k; first = λ k l. absurd (omega arith) }))
+      best-sum counts width 0 0 (record { within = omega (arith, size); reached = omega (arith, f 0); highest = λ k l. f k; first = λ k l. absurd (omega arith) })
 
   median-zeros : 0 ≡ medianOf counts
   median-zeros =

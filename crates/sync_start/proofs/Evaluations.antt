@@ -1,4 +1,4 @@
--- Laws of an evaluation for the session: the streak, the flags and samples that are read, the bound on a start. Assumes nothing.
+-- Laws of an evaluation for the session: the streak, the flags and samples that are read, the bounds on a start and its count. Assumes nothing.
 use mathlib.Core.Path.{_≡_, refl, sym, _∙_}
 use mathlib.Core.Bool.{Bool, true, false, cond}
 use mathlib.Core.List.{List, [], _++_, List·Memᴰ, List·Memᴰ·not-nil}
@@ -17,11 +17,12 @@ use Rattle.first_line.specs.declared.FirstLine.the-variants.{Missing, Line}
 use Rattle.sync_start.specs.declared.Evaluation.{Evaluation}
 use Rattle.sync_start.specs.declared.Located.{Located}
 use Rattle.sync_start.specs.declared.Located.the-variants.{Nowhere, At}
-use Rattle.sync_start.specs.Evaluate.{countsOf, lineIn, columnOf, lineStart, evenStart, positionOf, locatedBy, windowQuality, streakAfter, startQuality, locateIn, locateOf, readsBy, readsIn, evaluationBy, takenAt, knownAt, evaluationOf, readsOf, parityReads}
+use Rattle.sync_start.specs.Evaluate.{countsOf, lineIn, columnOf, windowsOf, lineStart, evenStart, positionOf, locatedBy, windowQuality, streakAfter, startQuality, locateIn, locateOf, readsBy, readsIn, evaluationBy, takenAt, knownAt, evaluationOf, readsOf, parityReads}
 use Rattle.window_fold.specs.Fold.{foldOf}
 use Rattle.line_parity.specs.Parity.{oddLine}
 use Rattle.window_fold.proofs.Folding.{fold-length}
-use Rattle.sync_start.proofs.Column.{column-within, sized}
+use Rattle.pulse.proofs.Largest.{best-within, windows-some, windows-most}
+use Rattle.sync_start.proofs.Sizes.{sized}
 use Rattle.sync_start.proofs.Positions.{line-within, timed, position-most}
 use Rattle.sync_start.proofs.Samples.{sampleOf, start-others, start-same, reads-below}
 
@@ -62,7 +63,7 @@ by-other-modes : (mode j : ℕ) (flags : List ℕ) (s t : List Float) (streak : 
 unfolding locateOf locateIn
 by-other-modes mode j flags s t streak e =
     same-start mode j flags s t streak
-    (λ h. start-others mode (specOf mode) (64 * j) (columnOf (specOf mode) (countsOf mode j flags)) (lineIn (specOf mode) (64 * j) (countsOf mode j flags) flags) s t e)
+    (λ h. start-others mode (specOf mode) (64 * j) (columnOf (specOf mode) (countsOf mode j flags)) (windowsOf (specOf mode) (countsOf mode j flags)) (lineIn (specOf mode) (64 * j) (countsOf mode j flags) flags) s t e)
 
 known-is : (flags : List ℕ) → 4 * length flags + 4 ≡ 4 * (length flags + 1)
 known-is flags = omega arith
@@ -77,7 +78,7 @@ by-parity-only mode j flags s t streak a b h = by (robot mode) refl
   where
     located : ((n : ℕ) → List·Memᴰ n (readsIn (specOf mode) (64 * j) (countsOf mode j flags) flags) → sampleOf s n ≡ sampleOf t n) → locateOf mode j flags s ≡ locateOf mode j flags t
     located k =
-        start-same mode (specOf mode) (64 * j) (columnOf (specOf mode) (countsOf mode j flags)) (lineIn (specOf mode) (64 * j) (countsOf mode j flags) flags) flags s t
+        start-same mode (specOf mode) (64 * j) (columnOf (specOf mode) (countsOf mode j flags)) (windowsOf (specOf mode) (countsOf mode j flags)) (lineIn (specOf mode) (64 * j) (countsOf mode j flags) flags) flags s t
         (a ∙ known-is flags) (b ∙ known-is flags) k
 
     by : (r : Bool) → robot mode ≡ r → evaluationBy mode j flags s streak ≡ evaluationBy mode j flags t streak
@@ -100,38 +101,58 @@ by-reads-known mode j flags streak n m = by (robot mode) (ltb (streakAfter (wind
     by true true l k = absurd (List·Memᴰ·not-nil k)
     by false q l k = absurd (List·Memᴰ·not-nil k)
 
--- ---- the position
+-- ---- the start
 
 fold-long : (mode j : ℕ) (flags : List ℕ) → length (countsOf mode j flags) ≡ 700
 unfolding foldOf
 fold-long mode j flags = fold-length (lineSamples (specOf mode)) (drop (64 * j) flags) (windowLines (specOf mode))
 
+fold-some : (mode j : ℕ) (flags : List ℕ) → 0 < length (countsOf mode j flags)
+fold-some mode j flags = rw (fold-long mode j flags) (lit< tt)
+
 column-few : (mode j : ℕ) (flags : List ℕ) → columnOf (specOf mode) (countsOf mode j flags) ≤ 700
 column-few mode j flags =
-    let n = fold-long mode j flags in
-    let some : 0 < length (countsOf mode j flags) = rw n (lit< tt) in
-    le-of-lt (rw n at (column-within (countsOf mode j flags) (pulseColumns (specOf mode) 700) some))
+    le-of-lt (rw (fold-long mode j flags) at (best-within (countsOf mode j flags) (pulseColumns (specOf mode) 700) (fold-some mode j flags)))
+
+-- the line of a start, where it lies, and its count
+abbrev Found : (mode j : ℕ) → List ℕ → List Float → (x w : ℕ) → FirstLine → Type 0
+Found mode j flags samples x w l =
+    let s = specOf mode in
+    let c = columnOf s (countsOf mode j flags) in
+    (y : ℕ) × (l ≡ Line y)
+    × (x ≡ positionOf s (evenStart (oddLine mode s samples (lineStart s (64 * j) c y)) s (lineStart s (64 * j) c y)))
+    × (w ≡ windowsOf s (countsOf mode j flags))
+
+by-line : (mode j : ℕ) (flags : List ℕ) (samples : List Float) (streak x w : ℕ) → evaluationBy mode j flags samples streak .start ≡ At x w
+    → Found mode j flags samples x w (lineIn (specOf mode) (64 * j) (countsOf mode j flags) flags)
+unfolding evaluationBy locateOf locateIn
+by-line mode j flags samples streak x w e =
+    by (ltb (streakAfter (windowQuality mode j flags) streak) 3) (lineIn (specOf mode) (64 * j) (countsOf mode j flags) flags) e
+  where
+    by : (q : Bool) (l : FirstLine)
+        → cond q Nowhere (locatedBy l mode (specOf mode) (64 * j) (columnOf (specOf mode) (countsOf mode j flags)) (windowsOf (specOf mode) (countsOf mode j flags)) samples) ≡ At x w
+        → Found mode j flags samples x w l
+    by true l p = let z : _≡_ {A = ℕ} 0 1 = cc in absurd (omega arith)
+    by false Missing p = let z : _≡_ {A = ℕ} 0 1 = cc in absurd (omega arith)
+    by false (Line y) p = (y, refl, cc, cc)
 
 -- a start lies below 2 ^ 31, and so it fits with every anchor and every size
-by-position-below : (mode j : ℕ) (flags : List ℕ) (samples : List Float) (streak x : ℕ) → 64 * j ≤ 16777216
-    → evaluationBy mode j flags samples streak .start ≡ At x → x ≤ 2 ^ 31
-unfolding evaluationBy locateOf locateIn
-by-position-below mode j flags samples streak x h e =
-    by (ltb (streakAfter (windowQuality mode j flags) streak) 3) (lineIn (specOf mode) (64 * j) (countsOf mode j flags) flags) refl e
-  where
-    never : {l : Located} → l ≡ Nowhere → l ≡ At x → x ≤ 2 ^ 31
-    never p q = let z : _≡_ {A = ℕ} 0 1 = cc in omega arith
+by-position-below : (mode j : ℕ) (flags : List ℕ) (samples : List Float) (streak x w : ℕ) → 64 * j ≤ 16777216
+    → evaluationBy mode j flags samples streak .start ≡ At x w → x ≤ 2 ^ 31
+by-position-below mode j flags samples streak x w h e =
+    let k = by-line mode j flags samples streak x w e in
+    let s = specOf mode in
+    let c = columnOf s (countsOf mode j flags) in
+    let few : k .0 ≤ 64 = le-trans (line-within s (64 * j) flags c (pulseColumns s 700) (k .0) (k .1)) (sized mode .lines) in
+    rw (k .2) (position-most s (timed mode) (oddLine mode s samples (lineStart s (64 * j) c (k .0))) (64 * j) c (k .0) h (column-few mode j flags) few)
 
-    by : (q : Bool) (l : FirstLine) → lineIn (specOf mode) (64 * j) (countsOf mode j flags) flags ≡ l
-        → cond q Nowhere (locatedBy l mode (specOf mode) (64 * j) (columnOf (specOf mode) (countsOf mode j flags)) samples) ≡ At x → x ≤ 2 ^ 31
-    by true l d p = never refl p
-    by false Missing d p = never refl p
-    by false (Line y) d p =
-        let s = specOf mode in
-        let c = columnOf s (countsOf mode j flags) in
-        let few : y ≤ 64 = le-trans (line-within s (64 * j) flags c (pulseColumns s 700) y d) (sized mode .lines) in
-        let v : x ≡ positionOf s (evenStart (oddLine mode s samples (lineStart s (64 * j) c y)) s (lineStart s (64 * j) c y)) = cc in
-        rw v (position-most s (timed mode) (oddLine mode s samples (lineStart s (64 * j) c y)) (64 * j) c y h (column-few mode j flags) few)
+-- the count beside a start is that of its own evaluation's windows, from 1 to 700
+by-windows : (mode j : ℕ) (flags : List ℕ) (samples : List Float) (streak x w : ℕ) → evaluationBy mode j flags samples streak .start ≡ At x w → (1 ≤ w) × (w ≤ 700)
+by-windows mode j flags samples streak x w e =
+    let k = by-line mode j flags samples streak x w e in
+    let n = pulseColumns (specOf mode) 700 in
+    rw (k .3)
+    (windows-some (countsOf mode j flags) n (fold-some mode j flags), rw (fold-long mode j flags) at (windows-most (countsOf mode j flags) n))
 
 -- ---- flags and samples that come later
 
@@ -200,8 +221,13 @@ reads-known mode j flags streak n m =
     let f : length (take w flags) ≤ min w (length flags) = seen-few w flags in
     omega arith
 
-pub position-small : (mode j : ℕ) (flags : List ℕ) (samples : List Float) (streak x : ℕ) → mode ≤ 15 → 64 * j ≤ 16777216
-    → evaluationOf mode j flags samples streak .start ≡ At x → x ≤ 2 ^ 62
+pub position-small : (mode j : ℕ) (flags : List ℕ) (samples : List Float) (streak x w : ℕ) → mode ≤ 15 → 64 * j ≤ 16777216
+    → evaluationOf mode j flags samples streak .start ≡ At x w → x ≤ 2 ^ 62
 unfolding evaluationOf
-position-small mode j flags samples streak x m h e =
-    le-trans (by-position-below mode j (take (takenAt mode j) flags) (take (knownAt mode j) samples) streak x h e) (lit≤ tt)
+position-small mode j flags samples streak x w m h e =
+    le-trans (by-position-below mode j (take (takenAt mode j) flags) (take (knownAt mode j) samples) streak x w h e) (lit≤ tt)
+
+pub start-windows : (mode j : ℕ) (flags : List ℕ) (samples : List Float) (streak x w : ℕ)
+    → evaluationOf mode j flags samples streak .start ≡ At x w → (1 ≤ w) × (w ≤ 700)
+unfolding evaluationOf
+start-windows mode j flags samples streak x w e = by-windows mode j (take (takenAt mode j) flags) (take (knownAt mode j) samples) streak x w e

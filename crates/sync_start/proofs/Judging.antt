@@ -40,6 +40,6 @@ module _ (mode j : ℕ) (flags : List ℕ) (spec : ModeSpec) (lines : ℕ) (coun
       unfolding evaluationBy streakAfter locateOf
       missed e = rw (← quality-is, h, le-ltb (streak + 1) 3 n, ← k, ← s, ← p, e)
 
-      pub located : (x : ℕ) → start ≡ At x → withStart quality (streak + 1) x ≡ evaluationBy mode j flags samples streak
+      pub located : (x w : ℕ) → start ≡ At x w → withStart quality (streak + 1) x w ≡ evaluationBy mode j flags samples streak
       unfolding evaluationBy streakAfter locateOf
-      located x e = rw (← quality-is, h, le-ltb (streak + 1) 3 n, ← k, ← s, ← p, e)
+      located x w e = rw (← quality-is, h, le-ltb (streak + 1) 3 n, ← k, ← s, ← p, e)

@@ -107,14 +107,14 @@ reads-below spec known start (suc k) m h = at (List·Memᴰ·append-cases (reads
 
 -- ---- the start
 
-module _ (mode : ℕ) (spec : ModeSpec) (first column : ℕ) where
-  pub start-others : (l : FirstLine) (s t : List Float) → robot mode ≡ false → locatedBy l mode spec first column s ≡ locatedBy l mode spec first column t
+module _ (mode : ℕ) (spec : ModeSpec) (first column windows : ℕ) where
+  pub start-others : (l : FirstLine) (s t : List Float) → robot mode ≡ false → locatedBy l mode spec first column windows s ≡ locatedBy l mode spec first column windows t
   unfolding oddLine
   start-others Missing s t e = refl
   start-others (Line y) s t e = rw e
 
   pub start-same : (l : FirstLine) (flags : List ℕ) (s t : List Float) → length s ≡ 4 * (length flags + 1) → length t ≡ 4 * (length flags + 1)
-      → ((m : ℕ) → List·Memᴰ m (readsBy l spec first flags column) → sampleOf s m ≡ sampleOf t m) → locatedBy l mode spec first column s ≡ locatedBy l mode spec first column t
+      → ((m : ℕ) → List·Memᴰ m (readsBy l spec first flags column) → sampleOf s m ≡ sampleOf t m) → locatedBy l mode spec first column windows s ≡ locatedBy l mode spec first column windows t
   unfolding oddLine
   start-same Missing flags s t a b h = refl
   start-same (Line y) flags s t a b h = rw (vote-same (4 * (length flags + 1)) s t a b spec (lineStart spec first column y) (windowLines spec) h)

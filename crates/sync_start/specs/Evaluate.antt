@@ -1,4 +1,5 @@
--- One evaluation (01-scope.md, "Start search"): `evaluate` and `locate_start` of sync_start.rs, and the samples that it reads. Definitions only.
+-- One evaluation (01-scope.md, "Start search"): `evaluate` and `locate_start` of sync_start.rs, and the samples that it reads; with the start
+-- how many pulse windows have the largest sum (02-change-requests.md, A.3). Definitions only.
 -- j is the evaluation's number. Flag and sample n stand at place n of their lists.
 use Prim.Native.Nat.{ℕ, _+_, _*_}
 use mathlib.Core.Bool.{Bool, cond, false}
@@ -42,22 +43,27 @@ positionOf spec start =
     (roundAway binary64
     (maximum (sub binary64 start (mul binary64 (mul binary64 (ofNat 2) (spec .«sync_seconds»)) workingRate)) (fin false 0 (pos 0))))
 
--- `locate_start`, for the first pulsed line
-abbrev pub locatedBy : FirstLine → ℕ → ModeSpec → ℕ → ℕ → List Float → Located
-locatedBy Missing mode spec first column samples = Nowhere
-locatedBy (Line y) mode spec first column samples =
+-- `locate_start`, for the first pulsed line; the count stands beside the start
+abbrev pub locatedBy : FirstLine → ℕ → ModeSpec → ℕ → ℕ → ℕ → List Float → Located
+locatedBy Missing mode spec first column windows samples = Nowhere
+locatedBy (Line y) mode spec first column windows samples =
     let start = lineStart spec first column y in
-    At (positionOf spec (evenStart (oddLine mode spec samples start) spec start))
+    At (positionOf spec (evenStart (oddLine mode spec samples start) spec start)) windows
 
 -- the start of the picture of these counts: `first_pulsed_line` at the best window, then `locate_start`
 abbrev pub columnOf : ModeSpec → List ℕ → ℕ
 columnOf spec counts = bestWindow counts (pulseColumns spec 700) .start
 
+-- how many windows of these counts have the largest sum
+abbrev pub windowsOf : ModeSpec → List ℕ → ℕ
+windowsOf spec counts = bestWindow counts (pulseColumns spec 700) .windows
+
 abbrev pub lineIn : ModeSpec → ℕ → List ℕ → List ℕ → FirstLine
 lineIn spec first counts flags = firstPulsedLine spec first flags (columnOf spec counts) (pulseColumns spec 700)
 
 unfoldable pub locateIn : ℕ → ModeSpec → ℕ → List ℕ → List ℕ → List Float → Located
-locateIn mode spec first counts flags samples = locatedBy (lineIn spec first counts flags) mode spec first (columnOf spec counts) samples
+locateIn mode spec first counts flags samples =
+    locatedBy (lineIn spec first counts flags) mode spec first (columnOf spec counts) (windowsOf spec counts) samples
 
 -- ---- the evaluation
 

@@ -16,5 +16,5 @@ pub record Sized (spec : ModeSpec) : Type 0 where
 abbrev pub withoutStart : Float → ℕ → Evaluation
 withoutStart quality streak = record { quality = quality; streak = streak; start = Nowhere }
 
-abbrev pub withStart : Float → ℕ → ℕ → Evaluation
-withStart quality streak position = record { quality = quality; streak = streak; start = At position }
+abbrev pub withStart : Float → ℕ → ℕ → ℕ → Evaluation
+withStart quality streak position windows = record { quality = quality; streak = streak; start = At position windows }

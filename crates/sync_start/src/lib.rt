@@ -11,10 +11,10 @@ ghost use Rattle.sync_start.specs.Evaluate as Evaluate;
 ghost use Rattle.sync_start.specs.Steps as Steps;
 ghost use Rattle.sync_start.specs.Steps.{Sized};
 
-// Where a picture starts, as a sample counted from the anchor.
+// Where a picture starts, as a sample counted from the anchor, and how many pulse windows have the largest sum there.
 pub enum Located {
     Nowhere,
-    At(u64),
+    At(u64, u16),
 }
 
 // What an evaluation gives: its quality, the streak behind it, and the start.
@@ -71,18 +71,19 @@ fn locate_start(
     spec: ModeSpec,
     first: usize,
     column: usize,
+    windows: u16,
     samples: &[f32],
     line: FirstLine,
 ) -> Located
     requires { ⌜ (first ≤ 16777216) × (column ≤ 700) × (Sizes.windowLines spec ≤ 65536) ⌝ }
-    ensures { λ r. ⌜ r ≡ Evaluate.locatedBy line mode spec first column (now (samples .entry)) ⌝ }
+    ensures { λ r. ⌜ r ≡ Evaluate.locatedBy line mode spec first column windows (now (samples .entry)) ⌝ }
 {
     match line {
         FirstLine::Missing => Located::Nowhere,
         FirstLine::Line(y) => {
             let start = line_start(spec, first, column, y);
             let odd = line_parity::first_line_is_odd(mode, spec, samples, start);
-            Located::At(position(spec, even_start(odd, spec, start)))
+            Located::At(position(spec, even_start(odd, spec, start)), windows)
         }
     }
 }
@@ -102,8 +103,9 @@ fn locate(
     let width = modespec::pulse_columns(spec, 700);
     let best = pulse::best_window(counts, width);
     let column = best.start;
+    let windows = best.windows as u16;
     let line = first_line::first_pulsed_line(spec, flags, first, column, width);
-    locate_start(mode, spec, first, column, samples, line)
+    locate_start(mode, spec, first, column, windows, samples, line)
 }
 
 // An evaluation without a start, and one with it.
@@ -117,13 +119,13 @@ fn nowhere(quality: f32, streak: u64) -> Evaluation
     }
 }
 
-fn found(quality: f32, streak: u64, position: u64) -> Evaluation
-    ensures { λ r. ⌜ r ≡ Steps.withStart quality streak position ⌝ }
+fn found(quality: f32, streak: u64, position: u64, windows: u16) -> Evaluation
+    ensures { λ r. ⌜ r ≡ Steps.withStart quality streak position windows ⌝ }
 {
     Evaluation {
         quality,
         streak,
-        start: Located::At(position),
+        start: Located::At(position, windows),
     }
 }
 
@@ -148,7 +150,7 @@ fn evaluate_by(mode: u8, j: usize, flags: &[u8], samples: &[f32], streak: u64) -
     match start {
         // No clean first line yet. The streak stays, so the next evaluation tries again.
         Located::Nowhere => nowhere(quality, next),
-        Located::At(position) => found(quality, next, position),
+        Located::At(position, windows) => found(quality, next, position, windows),
     }
 }
 

@@ -1,6 +1,6 @@
 // Replays the Rust's answers to the start search, from the files `vectors` and `inner` of long records.
 // Operation 0: evaluation b of mode a with the streak c. x is the start, all ones for none, y the streak behind it, z the
-// pattern of its quality. The payload has the flags and the pieces of the samples.
+// pattern of its quality and, 2^32 times, the start's windows. The payload has the flags and the pieces of the samples.
 // Operation 1: a search in mode a over b flags that makes c evaluations. x, y and z are those of the last one. The payload has
 // the flags, the c qualities, and the pieces of the samples.
 // Operation 2: the first line of window b in mode a that is pulsed in column c. x is the line, all ones for none. The payload has the flags.
@@ -86,13 +86,24 @@ fn evaluation(mode: u8, j: u64, streak: u64, flags: &[u8], samples: &[f32]) -> E
 fn position(start: Located) -> u64 {
     match start {
         Located::Nowhere => u64::MAX,
-        Located::At(x) => x,
+        Located::At(x, _) => x,
+    }
+}
+
+// The windows of a start, 0 for none.
+fn windows(start: Located) -> u64 {
+    match start {
+        Located::Nowhere => 0,
+        Located::At(_, n) => n as u64,
     }
 }
 
 fn same(e: Evaluation, x: u64, y: u64, z: u64) -> bool {
     let start = e.start;
-    position(start) == x && e.streak == y && replay::same_bits32(e.quality, replay::low_half(z))
+    position(start) == x
+        && e.streak == y
+        && windows(start) == z >> 32
+        && replay::same_bits32(e.quality, replay::low_half(z))
 }
 
 // ---- a search
@@ -107,7 +118,7 @@ fn found(e: Evaluation) -> bool {
     let start = e.start;
     match start {
         Located::Nowhere => false,
-        Located::At(_) => true,
+        Located::At(_, _) => true,
     }
 }
 

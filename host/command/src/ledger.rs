@@ -12,6 +12,9 @@ const MOST_FLAGS: usize = 1 << 22;
 pub struct Picture {
     /// Sample number, counted from the anchor on.
     pub start: u64,
+    /// How many windows have the largest sum, at the evaluation that found the
+    /// start; 1 unless several windows tie.
+    pub windows: u64,
     pub start_quality: f32,
     /// `None` where the sound ends before the picture does.
     pub report: Option<Report>,
@@ -100,11 +103,13 @@ pub fn pictures(
         match reading.end {
             End::Reported {
                 start,
+                windows,
                 start_quality,
                 report,
             } => {
                 let picture = Picture {
                     start,
+                    windows,
                     start_quality,
                     report: Some(report),
                 };
@@ -124,10 +129,12 @@ pub fn pictures(
             }
             End::CutShort {
                 start,
+                windows,
                 start_quality,
             } => {
                 let picture = Picture {
                     start,
+                    windows,
                     start_quality,
                     report: None,
                 };
@@ -144,6 +151,17 @@ pub fn pictures(
     Ok(found)
 }
 
+/// Whether a standby's ledger is the primary's from the flag `first` on. What the
+/// standby counts is less by `offset`.
+pub fn agree(primary: &[Found], standby: &[Found], first: usize, offset: u64) -> bool {
+    let due = primary.iter().filter(|one| one.begun >= first);
+    let due = due.map(|one| Picture {
+        start: one.picture.start - offset,
+        ..one.picture
+    });
+    standby.iter().map(|one| one.picture).eq(due)
+}
+
 fn as_count(n: u64) -> usize {
     usize::try_from(n).unwrap_or(usize::MAX)
 }
@@ -154,30 +172,69 @@ mod tests {
 
     const ROBOT_8_BW: u8 = 8;
 
-    /// Flags of a sound with a picture of Robot 8 B/W from each of these on.
-    fn heard(flags: usize, pictures: &[usize]) -> Vec<u8> {
+    /// Flags of a sound with a picture of Robot 8 B/W from each of these on, whose
+    /// pulses have so many flags.
+    fn heard(flags: usize, pictures: &[usize], pulse: usize) -> Vec<u8> {
         let mut heard = vec![0; flags];
         for first in pictures {
             for line in 0..120 {
                 // A line of 66.9 ms is 184.393125 flags.
                 let from = first + line * 184_393_125 / 1_000_000;
-                let to = (from + 19).min(flags);
+                let to = (from + pulse).min(flags);
                 heard[from.min(to)..to].fill(1);
             }
         }
         heard
     }
 
-    #[test]
-    fn each_picture_has_the_card_of_its_session() {
-        let flags = heard(85_000, &[500, 30_000, 70_000]);
-        let sound = vec![0.0; 4 * flags.len() + 4];
+    /// The pictures of these flags, by a machine's count and blocks.
+    fn kept(flags: &[u8], anchor: u64, block: usize) -> Vec<Found> {
         let keeping = Keeping {
             mode: ROBOT_8_BW,
-            anchor: 1_000_003,
-            block: 64,
+            anchor,
+            block,
         };
-        let found = pictures(&keeping, &flags, &sound, 0).unwrap();
+        let sound = vec![0.0; 4 * flags.len() + 4];
+        pictures(&keeping, flags, &sound, 0).unwrap()
+    }
+
+    /// By a count over the columns of the evaluation that finds the start.
+    #[test]
+    fn each_picture_has_the_count_of_windows() {
+        let flags = heard(85_000, &[500], 90);
+        let found = kept(&flags, 0, 64);
+        assert_eq!(
+            (found[0].picture.start, found[0].picture.windows),
+            (1_846, 266)
+        );
+    }
+
+    #[test]
+    fn two_ledgers_agree_in_every_field() {
+        let flags = heard(85_000, &[500, 30_000, 70_000], 90);
+        let primary = kept(&flags, 1_000_003, 64);
+        let standby = kept(&flags, 3, 1_021);
+        assert_eq!(primary.len(), 3);
+        assert!(agree(&primary, &standby, 0, 1_000_000));
+        assert!(agree(&primary, &standby[1..], primary[1].begun, 1_000_000));
+        assert!(!agree(&primary, &standby[1..], 0, 1_000_000));
+        assert!(!agree(&primary, &standby, 0, 1_000_001));
+        let changes: [fn(&mut Picture); 4] = [
+            |picture| picture.start += 1,
+            |picture| picture.windows += 1,
+            |picture| picture.start_quality += 0.25,
+            |picture| picture.report = None,
+        ];
+        for change in changes {
+            let mut other = standby.clone();
+            change(&mut other[1].picture);
+            assert!(!agree(&primary, &other, 0, 1_000_000));
+        }
+    }
+
+    #[test]
+    fn each_picture_has_the_card_of_its_session() {
+        let found = kept(&heard(85_000, &[500, 30_000, 70_000], 19), 1_000_003, 64);
         let ends: Vec<u8> = found.iter().map(|f| f.card.end).collect();
         assert_eq!(ends, [0, 0, 2]);
         for Found { picture, card, .. } in found {
@@ -187,10 +244,12 @@ mod tests {
                     start,
                     start_quality,
                     report,
+                    ..
                 } => (start, start_quality, Some(report)),
                 End::CutShort {
                     start,
                     start_quality,
+                    ..
                 } => (start, start_quality, None),
                 End::Unfound => panic!("no picture"),
             };

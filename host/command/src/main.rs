@@ -12,7 +12,7 @@ use clap::{Parser, Subcommand};
 use flags::Prober;
 use funnelivy::machine::Port;
 use funnelivy::Report;
-use ledger::{pictures, Found, Keeping, Picture};
+use ledger::{agree, pictures, Found, Keeping, Picture};
 use modes::{mode_by_name, ModeTiming, MODE_NAMES};
 use std::io::{IsTerminal, Write};
 use std::path::{Path, PathBuf};
@@ -34,8 +34,9 @@ enum Command {
     /// Make each call of recordings again and print the answers that differ
     ///
     /// For each answer that differs: file, line, the answer recorded and the
-    /// one got. A line of version 2 whose call is not there yet is left out, and
-    /// said to be. The last line is `N passed, M failed`; the status is 0 if M is 0.
+    /// one got, in the fields that the line has. A line of version 2 whose call is
+    /// not there yet is left out, and said to be. The last line is `N passed, M
+    /// failed`; the status is 0 if M is 0.
     Replay {
         /// Recordings: text whose first line is `funnelivy recording 1`, or 2
         #[arg(required = true)]
@@ -51,10 +52,11 @@ enum Command {
     },
     /// A line for each picture of a mono WAV file at 11,025 Hz
     ///
-    /// Where it starts, the true sampling rate, the slant (90° is upright), the
-    /// samples to skip from the start to the first line, and the qualities. With
-    /// --cards the card of each of these pictures, 56 bytes, is appended to a file,
-    /// in the same order.
+    /// Where it starts, how many windows have the largest sum there (several tie
+    /// where the sync tone lasts too long, as on a dead carrier), the true sampling
+    /// rate, the slant (90° is upright), the samples to skip from the start to the
+    /// first line, and the qualities. With --cards the card of each of these
+    /// pictures, 56 bytes, is appended to a file, in the same order.
     Ledger {
         /// A mono WAV file at 11,025 Hz
         file: PathBuf,
@@ -205,12 +207,21 @@ fn hear(file: &Path) -> Result<Heard, Trouble> {
 
 fn line(number: usize, picture: &Picture) -> String {
     let begin = format!(
-        "picture {number}: start {}, start quality {:.3}",
-        picture.start, picture.start_quality
+        "picture {number}: start {}, {}, start quality {:.3}",
+        picture.start,
+        windows_in_words(picture.windows),
+        picture.start_quality
     );
     match picture.report {
         None => format!("{begin}; the sound ends before the picture"),
         Some(r) => format!("{begin}, {}", report_in_words(&r)),
+    }
+}
+
+fn windows_in_words(windows: u64) -> String {
+    match windows {
+        1 => "1 window with the largest sum".to_owned(),
+        n => format!("{n} windows tie for the largest sum"),
     }
 }
 
@@ -290,15 +301,6 @@ fn takeover(file: &Path, mode: u8, at: u64) -> Result<bool, Trouble> {
         block: 1_021,
     };
     let taken_over = pictures(&standby, &heard.flags[first..], sound, 0).map_err(words)?;
-    let offset = PRIMARY_ANCHOR + 4 * first as u64;
-    let expected: Vec<Picture> = whole
-        .iter()
-        .filter(|one| one.begun >= first)
-        .map(|one| Picture {
-            start: one.picture.start - offset,
-            ..one.picture
-        })
-        .collect();
     print_ledger(
         &format!("primary, anchor {PRIMARY_ANCHOR}, blocks of 64 flags:"),
         &whole,
@@ -311,19 +313,18 @@ fn takeover(file: &Path, mode: u8, at: u64) -> Result<bool, Trouble> {
         ),
         &taken_over,
     );
-    let agree = taken_over
-        .iter()
-        .map(|one| one.picture)
-        .eq(expected.iter().copied());
+    let offset = PRIMARY_ANCHOR + 4 * first as u64;
+    let agreed = agree(&whole, &taken_over, first, offset);
     println!(
         "the ledgers {}",
-        if agree {
-            "agree: every start less the anchor, rate, slant, skip and quality is the same"
+        if agreed {
+            "agree: every start less the anchor, count of windows, rate, slant, skip and \
+             quality is the same"
         } else {
             "DIFFER"
         }
     );
-    Ok(agree)
+    Ok(agreed)
 }
 
 fn synthesise(file: &Path, mode: u8, rate: f64, noise: f32) -> Result<(), Trouble> {
@@ -342,4 +343,36 @@ fn synthesise(file: &Path, mode: u8, rate: f64, noise: f32) -> Result<(), Troubl
     std::fs::File::create(file)
         .and_then(|mut f| f.write_all(&bytes))
         .map_err(|e| format!("{} cannot be written: {e}", file.display()))
+}
+
+#[cfg(test)]
+mod tests {
+    use super::*;
+
+    #[test]
+    fn a_line_says_how_many_windows_tie() {
+        let mut picture = Picture {
+            start: 1_843,
+            windows: 1,
+            start_quality: 0.914,
+            report: None,
+        };
+        assert_eq!(
+            line(1, &picture),
+            "picture 1: start 1843, 1 window with the largest sum, start quality 0.914; \
+             the sound ends before the picture"
+        );
+        picture.windows = 37;
+        picture.report = Some(Report {
+            rate: 11_025.0,
+            slant: Some(90.0),
+            skip: 158,
+            quality: 0.5,
+        });
+        assert_eq!(
+            line(2, &picture),
+            "picture 2: start 1843, 37 windows tie for the largest sum, start quality 0.914, \
+             rate 11025.000 Hz, slant 90.0°, skip 158, quality 0.500"
+        );
+    }
 }

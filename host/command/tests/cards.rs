@@ -1,50 +1,27 @@
 //! `ledger --cards FILE` and `cards FILE`, as they are run.
 
-use std::path::{Path, PathBuf};
-use std::process::{Command, Output};
+mod running;
 
-/// A folder of its own, gone afterwards.
-struct Folder(PathBuf);
-
-impl Folder {
-    fn new(name: &str) -> Self {
-        let folder = std::env::temp_dir().join(format!("{name}-{}", std::process::id()));
-        std::fs::create_dir_all(&folder).unwrap();
-        Self(folder)
-    }
-
-    fn path(&self, name: &str) -> PathBuf {
-        self.0.join(name)
-    }
-}
-
-impl Drop for Folder {
-    fn drop(&mut self) {
-        let _ = std::fs::remove_dir_all(&self.0);
-    }
-}
-
-fn funnelivy(words: &[&str], files: &[&Path]) -> Output {
-    let mut command = Command::new(env!("CARGO_BIN_EXE_funnelivy"));
-    command.args(words).args(files).output().unwrap()
-}
+use running::{funnelivy, status, text, Folder};
+use std::path::Path;
+use std::process::Output;
 
 fn ledger(sound: &Path, cards: &Path) -> Output {
     let words = ["ledger", "--mode", "robot36", "--anchor", "7", "--cards"];
     funnelivy(&words, &[cards, sound])
 }
 
-fn text(bytes: &[u8]) -> String {
-    String::from_utf8(bytes.to_vec()).unwrap()
-}
-
-fn status(output: &Output) -> Option<i32> {
-    output.status.code()
-}
-
 /// The part of a line behind a word.
 fn behind<'a>(line: &'a str, word: &str) -> &'a str {
     line.split_once(word).unwrap().1
+}
+
+/// A line of the ledger without the count of windows, which no card has.
+fn without_windows(line: &str) -> String {
+    let (begin, rest) = line.split_once(", start quality ").unwrap();
+    let (start, windows) = begin.split_once(", ").unwrap();
+    assert!(windows.ends_with(" the largest sum"), "{line}");
+    format!("{start}, start quality {rest}")
 }
 
 #[test]
@@ -78,8 +55,8 @@ fn the_cards_of_a_ledger() {
     for (number, line) in lines.iter().enumerate() {
         let begin = format!("card {}: robot36, reported, taken ", number + 1);
         assert!(line.starts_with(&begin), "{line}");
-        let picture = pictures[number % 2];
-        assert_eq!(behind(line, ", start "), behind(picture, ": start "));
+        let picture = without_windows(pictures[number % 2]);
+        assert_eq!(behind(line, ", start "), behind(&picture, ": start "));
     }
 }
 

@@ -73,13 +73,16 @@ impl Card {
         (self.slant < SLANTS).then(|| 30.0 + f64::from(self.slant) / 2.0)
     }
 
-    /// What the session's read gave. `None` for an end above 2.
+    /// What the session's read gave, but that `windows` is 0: a card does not have
+    /// it. `None` for an end above 2.
     #[must_use]
     pub fn reading(&self) -> Option<Reading> {
         let (start, start_quality) = (self.start, self.start_quality);
+        let windows = 0;
         let end = match self.end {
             0 => End::Reported {
                 start,
+                windows,
                 start_quality,
                 report: Report {
                     rate: self.rate,
@@ -91,6 +94,7 @@ impl Card {
             1 => End::Unfound,
             2 => End::CutShort {
                 start,
+                windows,
                 start_quality,
             },
             _ => return None,

@@ -19,6 +19,7 @@ pub struct RawSession {
     pub skip: i64,
     pub start_quality: f32,
     pub quality: f32,
+    pub windows: u16,
     pub mode: u8,
     pub phase: u8,
     pub has_slant: u8,
@@ -45,6 +46,7 @@ pub struct RawWindow {
     pub refusal: u32,
     pub start: u64,
     pub sum: u64,
+    pub windows: u64,
 }
 
 #[repr(C)]
@@ -101,6 +103,7 @@ pub struct RawReading {
     pub start_quality: f32,
     pub quality: f32,
     pub has_slant: u32,
+    pub windows: u32,
 }
 
 #[repr(C)]

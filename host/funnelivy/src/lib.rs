@@ -28,8 +28,11 @@ use refusal::check;
 /// The best window of a ring of counts.
 #[derive(Clone, Copy, Debug, PartialEq, Eq)]
 pub struct BestWindow {
+    /// The first place from which the sum is the largest.
     pub start: u64,
     pub sum: u64,
+    /// How many windows have the largest sum; 1 unless several windows tie.
+    pub windows: u64,
 }
 
 /// Flags of a search window (w) and of a picture at the working rate (P).
@@ -72,6 +75,7 @@ pub fn best_pulse_window(counts: &[u32], width: u64) -> Result<BestWindow, Refus
     Ok(BestWindow {
         start: r.start,
         sum: r.sum,
+        windows: r.windows,
     })
 }
 

@@ -77,6 +77,7 @@ impl Machine for Port {
                 best_pulse_window(counts, *width).map(|w| Answer::Window {
                     start: w.start,
                     sum: w.sum,
+                    windows: w.windows,
                 })
             }
             Call::Quality {

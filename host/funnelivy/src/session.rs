@@ -192,6 +192,7 @@ impl Session {
         let end = match r.end {
             0 => End::Reported {
                 start: r.start,
+                windows: r.windows.into(),
                 start_quality: r.start_quality,
                 report: Report {
                     rate: r.rate,
@@ -203,6 +204,7 @@ impl Session {
             1 => End::Unfound,
             _ => End::CutShort {
                 start: r.start,
+                windows: r.windows.into(),
                 start_quality: r.start_quality,
             },
         };

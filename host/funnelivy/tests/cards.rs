@@ -1,9 +1,11 @@
 //! Ledger cards: bytes written out by hand from document 02, A.1, every cause of
 //! a refusal, and the cards of sessions.
 
-use funnelivy::{sizes, Card, End, Refusal, Session, Work, CARD_BYTES, NO_SLANT};
+mod robot8;
 
-const ROBOT_8_BW: u8 = 8;
+use funnelivy::{Card, End, Reading, Refusal, Session, CARD_BYTES, NO_SLANT};
+use robot8::{ended, heard, MODE as ROBOT_8_BW};
+
 const LENGTH: Refusal = Refusal(12);
 const MARK: Refusal = Refusal(13);
 const CONTENTS: Refusal = Refusal(14);
@@ -314,57 +316,40 @@ fn a_card_says_what_was_read() {
     assert_eq!((reading.taken, reading.evaluations), (22_588, 3));
     let End::Reported {
         start,
+        windows,
         start_quality,
         report,
     } = reading.end
     else {
         panic!("another end");
     };
-    assert_eq!((start, start_quality), (1_843, 0.75));
+    assert_eq!((start, windows, start_quality), (1_843, 0, 0.75));
     assert_eq!((report.rate, report.slant), (11_025.0, Some(90.0)));
     assert_eq!((report.skip, report.quality), (-158, 0.5));
     assert_eq!(UNFOUND.reading().unwrap().end, End::Unfound);
     let cut_short = End::CutShort {
         start: 1 << 63,
+        windows: 0,
         start_quality: 1.0,
     };
     assert_eq!(CUT_SHORT.reading().unwrap().end, cut_short);
     assert_eq!(Card { end: 3, ..REPORTED }.reading(), None);
 }
 
-/// Flags of Robot 8 B/W with a pulse on each line from a flag on.
-fn heard(first: usize) -> Vec<u8> {
-    let sizes = sizes(ROBOT_8_BW).unwrap();
-    let mut flags = vec![0; usize::try_from(sizes.window + sizes.picture).unwrap()];
-    for line in 0..120 {
-        // A line of 66.9 ms is 184.393125 flags.
-        let from = first + line * 184_393_125 / 1_000_000;
-        let to = (from + 19).min(flags.len());
-        flags[from.min(to)..to].fill(1);
+/// What a card keeps of a reading: all but the count of windows, which is there
+/// exactly where there is a start.
+fn on_card(mut reading: Reading) -> Reading {
+    if let End::Reported { windows, .. } | End::CutShort { windows, .. } = &mut reading.end {
+        assert_ne!(*windows, 0);
+        *windows = 0;
     }
-    flags
-}
-
-/// A session that hears these flags, which fill its store.
-fn ended(anchor: u64, flags: &[u8]) -> Session {
-    let mut session = Session::open(ROBOT_8_BW, anchor, flags.len(), &[0.0; 4]).unwrap();
-    let mut work = Work::new();
-    assert_eq!(session.card(), Err(Refusal(11)));
-    for some in flags.chunks(1_000) {
-        let samples = vec![0.0; 4 * some.len()];
-        let taken = session.feed(some, &samples, &mut work).unwrap();
-        if taken < some.len() as u64 || session.read().is_ok() {
-            return session;
-        }
-        assert_eq!(session.card(), Err(Refusal(11)));
-    }
-    session
+    reading
 }
 
 /// The session's card, which agrees with its read and survives its bytes.
 fn card_of(session: &Session) -> Card {
     let card = session.card().unwrap();
-    assert_eq!(card.reading(), Some(session.read().unwrap()));
+    assert_eq!(card.reading(), Some(on_card(session.read().unwrap())));
     let bytes = card.to_bytes().unwrap();
     assert_eq!(Card::read(&bytes), Ok(card));
     assert_eq!(session.card(), Ok(card));
@@ -373,7 +358,7 @@ fn card_of(session: &Session) -> Card {
 
 #[test]
 fn the_card_of_a_session_that_reports() {
-    let card = card_of(&ended(1_000_003, &heard(500)));
+    let card = card_of(&ended(1_000_003, &heard(500, 19), 1_000));
     let due = Card {
         mode: ROBOT_8_BW,
         end: 0,
@@ -391,8 +376,8 @@ fn the_card_of_a_session_that_reports() {
 
 #[test]
 fn the_card_of_a_session_that_finds_nothing() {
-    let flags = vec![0; heard(0).len()];
-    let card = card_of(&ended(7, &flags));
+    let flags = vec![0; heard(0, 0).len()];
+    let card = card_of(&ended(7, &flags, 1_000));
     let due = Card {
         mode: ROBOT_8_BW,
         taken: flags.len() as u64,
@@ -405,8 +390,8 @@ fn the_card_of_a_session_that_finds_nothing() {
 
 #[test]
 fn the_card_of_a_session_that_is_cut_short() {
-    let flags = heard(8_000);
-    let card = card_of(&ended(7, &flags));
+    let flags = heard(8_000, 19);
+    let card = card_of(&ended(7, &flags, 1_000));
     let due = Card {
         mode: ROBOT_8_BW,
         end: 2,

@@ -178,7 +178,7 @@ fn subnormal_tones_tell_the_parity_of_a_line() {
     assert_eq!((raw(DEFAULT), raw(FLUSHING)), (947, 2_600));
     let given = through_the_library(DEFAULT, &flags, &sound).unwrap();
     assert!(matches!(given.0.end, End::Reported { start: 947, .. }));
-    assert_eq!(given.1.reading(), Some(given.0));
+    assert_eq!((given.1.end, given.1.start), (0, 947));
     for control in environments() {
         let again = through_the_library(control, &flags, &sound);
         assert_eq!(again, Ok(given), "{control:x}");

@@ -162,6 +162,28 @@ fn feed(
     Ok(r)
 }
 
+/// Whether a session has a count of windows where it has a start, and the same from
+/// the start on.
+fn counted(tally: &mut Tally, record: &RawSession, next: &RawSession) -> Outcome {
+    let has_start = |record: &RawSession| matches!(record.phase, 1 | 2 | 4);
+    let due = if has_start(record) {
+        record.windows..=record.windows
+    } else if has_start(next) {
+        tally.case(if next.windows > 1 {
+            "feed: a start, and windows tie"
+        } else {
+            "feed: a start, and no windows tie"
+        });
+        1..=700
+    } else {
+        0..=0
+    };
+    ensure(
+        due.contains(&next.windows),
+        "feed: another count of windows",
+    )
+}
+
 /// A session's own record and its next flags.
 pub fn own(rng: &mut Rng, tally: &mut Tally, live: &mut Live) -> Outcome {
     let mut work = Work::new(rng);
@@ -182,6 +204,7 @@ pub fn own(rng: &mut Rng, tally: &mut Tally, live: &mut Live) -> Outcome {
         (next.mode, next.anchor, next.capacity) == (record.mode, record.anchor, record.capacity),
         "feed: mode, anchor or F changed",
     )?;
+    counted(tally, &record, &next)?;
     let worked = if next.phase == 2 {
         work.cleared()
     } else {

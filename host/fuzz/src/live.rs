@@ -32,8 +32,8 @@ fn sizes(mode: u8) -> (usize, usize) {
     (count(r.window), count(r.picture))
 }
 
-/// Pulses from a flag on, which may come too late for a whole picture; or
-/// noise; or nothing.
+/// Pulses from a flag on, which may come too late for a whole picture, now and
+/// then so long that windows tie; or noise; or nothing.
 #[allow(
     clippy::cast_precision_loss,
     clippy::cast_possible_truncation,
@@ -46,6 +46,7 @@ fn sound(rng: &mut Rng, (mode, line, pulse): (u8, f64, usize), n: usize) -> Vec<
         2 | 3 => sizes(mode).0 + 600 + rng.below(sizes(mode).1 / 2),
         _ => rng.below(500),
     };
+    let pulse = pulse + rng.pick(&[0, 0, 0, 3, 60]);
     let mut flags = vec![0; n];
     for y in 0..240 {
         let from = first + (f64::from(y) * line) as usize;
@@ -100,6 +101,7 @@ pub fn unopened() -> RawSession {
         skip: 0,
         start_quality: 0.0,
         quality: 0.0,
+        windows: 0,
         mode: 0,
         phase: 0,
         has_slant: 0,

@@ -6,6 +6,12 @@ use crate::tally::Tally;
 use crate::{due, ensure, Outcome};
 use funnelivy::ffi::{self, RawSession};
 
+/// Any count, often one that no session has.
+fn windows(rng: &mut Rng) -> u16 {
+    let any = u16::from_le_bytes([rng.byte(), rng.byte()]);
+    rng.pick(&[0, 1, 700, 701, any, any])
+}
+
 /// All random, but often with the length of the store, without which every
 /// feed is refused with 5.
 pub fn random(rng: &mut Rng, live: &Live) -> RawSession {
@@ -29,12 +35,14 @@ pub fn random(rng: &mut Rng, live: &Live) -> RawSession {
         skip: number().cast_signed(),
         start_quality: 0.0,
         quality: 0.0,
+        windows: 0,
         mode: 0,
         phase: 0,
         has_slant: 0,
     };
     record.start_quality = rng.wild();
     record.quality = rng.wild();
+    record.windows = windows(rng);
     let (mode, phase) = (rng.byte(), rng.byte());
     record.mode = if small { mode % 16 } else { mode };
     record.phase = if small { phase % 2 } else { phase };
@@ -53,7 +61,7 @@ pub fn changed(rng: &mut Rng, mut record: RawSession) -> RawSession {
         1 => rng.bits() % 30_000,
         _ => rng.about(1 << 62),
     };
-    match rng.below(9) {
+    match rng.below(10) {
         0 => record.anchor = near(rng, record.anchor),
         1 => record.capacity = near(rng, record.capacity),
         2 => record.taken = near(rng, record.taken),
@@ -62,6 +70,7 @@ pub fn changed(rng: &mut Rng, mut record: RawSession) -> RawSession {
         5 => record.position = near(rng, record.position),
         6 => record.mode = rng.mode(),
         7 => record.phase = rng.byte() % 6,
+        8 => record.windows = windows(rng),
         _ => record.start_quality = rng.wild(),
     }
     record
@@ -73,7 +82,8 @@ pub fn read(tally: &mut Tally, record: RawSession) -> Outcome {
     let r = unsafe { ffi::funnelivy_read(record) };
     tally.count("read", due(&[(record.phase <= 1, 11)]), r.refusal)?;
     if r.refusal != 0 {
-        let bare = (r.end, r.taken, r.evaluations, r.start, r.skip, r.has_slant);
+        let counts = (r.end, r.taken, r.evaluations);
+        let bare = (r.start, r.windows, r.skip, r.has_slant);
         let floats = [
             r.rate,
             r.slant,
@@ -82,7 +92,7 @@ pub fn read(tally: &mut Tally, record: RawSession) -> Outcome {
         ];
         let zeros = floats.iter().all(|x| x.to_bits() == 0);
         return ensure(
-            bare == (0, 0, 0, 0, 0, 0) && zeros,
+            counts == (0, 0, 0) && bare == (0, 0, 0, 0) && zeros,
             "read: numbers beside a refusal",
         );
     }
@@ -96,11 +106,14 @@ pub fn read(tally: &mut Tally, record: RawSession) -> Outcome {
         (r.taken, r.evaluations) == (record.taken, record.evaluations),
         "read: other counts",
     )?;
-    let start = record.anchor.wrapping_add(record.position);
-    ensure(
-        r.start == if end == 1 { 0 } else { start },
-        "read: another start",
-    )?;
+    let (start, windows) = if end == 1 {
+        (0, 0)
+    } else {
+        let start = record.anchor.wrapping_add(record.position);
+        (start, record.windows.into())
+    };
+    ensure(r.start == start, "read: another start")?;
+    ensure(r.windows == windows, "read: another count of windows")?;
     tally.case(case);
     Ok(())
 }

@@ -33,9 +33,21 @@ fn counts(rng: &mut Rng) -> Vec<u32> {
         2..=8 => rng.pick(&[699, 700, 701]),
         _ => rng.below(40),
     };
-    let most = rng.pick(&[1, 250, 1_000_000, 1_000_001, u32::MAX]);
+    let most = rng.pick(&[0, 1, 250, 1_000_000, 1_000_001, u32::MAX]);
     let count = |_| (rng.bits() % (u64::from(most) + 1)) as u32;
     (0..n).map(count).collect()
+}
+
+/// The sum of each window of a ring, by the totals up to each place of the ring
+/// laid out twice.
+fn sums(counts: &[u32], width: u64) -> Vec<u64> {
+    let (n, width) = (counts.len(), usize::try_from(width).unwrap_or(0));
+    let mut totals = vec![0];
+    for place in 0..2 * n {
+        totals.push(totals[place] + u64::from(counts[place % n]));
+    }
+    let sum = |start: usize| totals[start + width] - totals[start];
+    (0..n).map(sum).collect()
 }
 
 pub fn window(rng: &mut Rng, tally: &mut Tally) -> Outcome {
@@ -52,12 +64,26 @@ pub fn window(rng: &mut Rng, tally: &mut Tally) -> Outcome {
     let outside = n == 0 || n > MOST || width == 0 || width > n;
     tally.count("window", due(&[(outside, 9)]), r.refusal)?;
     ensure(list.same(), "window: the counts changed")?;
-    let held = if outside {
-        (r.start, r.sum) == (0, 0)
-    } else {
-        r.start < n
-    };
-    ensure(held, "window: the start is no place of the list")
+    if outside {
+        let bare = (r.start, r.sum, r.windows) == (0, 0, 0);
+        return ensure(bare, "window: numbers beside a refusal");
+    }
+    let sums = sums(&counts, width);
+    let most = sums.iter().max().copied().unwrap_or(0);
+    let with_most = (0..n).zip(&sums).filter(|(_, sum)| **sum == most);
+    let starts: Vec<u64> = with_most.map(|(start, _)| start).collect();
+    ensure(
+        starts.first() == Some(&r.start) && r.sum == most,
+        "window: not the first with the largest sum",
+    )?;
+    let windows = starts.len() as u64;
+    ensure(r.windows == windows, "window: another count of windows")?;
+    tally.case(match windows {
+        1 => "window: one has the largest sum",
+        all if all == n => "window: all tie",
+        _ => "window: several tie",
+    });
+    Ok(())
 }
 
 pub fn quality(rng: &mut Rng, tally: &mut Tally) -> Outcome {

@@ -22,12 +22,17 @@ const CALLS: [(&str, &[u32]); 14] = [
 ];
 
 /// What must be reached beside the numbers.
-const CASES: [&str; 21] = [
+const CASES: [&str; 26] = [
+    "window: one has the largest sum",
+    "window: several tie",
+    "window: all tie",
     "has_sync: yes",
     "has_sync: no",
     "read: reported",
     "read: unfound",
     "read: cut short",
+    "feed: a start, and no windows tie",
+    "feed: a start, and windows tie",
     "feed: a random record",
     "feed: a record with a field changed",
     "feed: another session's record",

@@ -4,8 +4,8 @@
 //! The first line is `funnelivy recording 1` or `funnelivy recording 2`; after
 //! it each line is empty, a comment that starts with `#`, or `CALL = ANSWER`.
 //! Nothing is guessed: a line that is anything else is an [`Error`] with its
-//! number. Version 2 has more calls; a line with one of them that is not here yet
-//! is left out, and said to be.
+//! number. Version 2 has more calls, and answers with more fields; a line with one
+//! that is not here yet is left out, and said to be.
 
 pub mod commands;
 mod list;
@@ -16,7 +16,7 @@ pub use list::{
     read_bytes, read_floats, read_numbers, write_bytes, write_floats, write_numbers, Source,
     MOST_ELEMENTS,
 };
-pub use parse::{parse, Entry, Recording};
+pub use parse::{parse, Entry, RecordedAnswer, Recording};
 pub use run::{record, replay, Machine, Outcome, Recorded};
 
 use std::fmt;
@@ -40,6 +40,40 @@ impl Version {
         match self {
             Self::One => HEADER,
             Self::Two => "funnelivy recording 2",
+        }
+    }
+
+    /// The newest form that answers of this version have. They are written in it.
+    #[must_use]
+    pub fn form(self) -> Form {
+        match self {
+            Self::One => Form::First,
+            Self::Two => Form::NEWEST,
+        }
+    }
+}
+
+/// Which fields an answer has. Changes added some, and a recording that was
+/// written before a change lacks them.
+#[derive(Clone, Copy, Debug, PartialEq, Eq, PartialOrd, Ord)]
+pub enum Form {
+    /// Those of document 01.
+    First,
+    /// Also how many windows have the largest sum (document 02, A.3).
+    Windows,
+}
+
+impl Form {
+    /// The form with every field.
+    pub const NEWEST: Self = Self::Windows;
+
+    /// The word of a count of windows with a space before it, where this form has
+    /// that word.
+    fn windows(self, count: u64) -> String {
+        if self >= Self::Windows {
+            format!(" {count}")
+        } else {
+            String::new()
         }
     }
 }
@@ -188,13 +222,21 @@ pub enum End {
     /// A picture was found and its flags are all there.
     Reported {
         start: u64,
+        /// How many windows have the largest sum, at the evaluation that found
+        /// the start; 1 unless several windows tie.
+        windows: u64,
         start_quality: f32,
         report: Report,
     },
     /// The store is full and no picture was found.
     Unfound,
     /// The store is full before the picture's last flag.
-    CutShort { start: u64, start_quality: f32 },
+    CutShort {
+        start: u64,
+        /// As in a report.
+        windows: u64,
+        start_quality: f32,
+    },
 }
 
 /// The answer to a call.
@@ -205,6 +247,8 @@ pub enum Answer {
     Window {
         start: u64,
         sum: u64,
+        /// How many windows have that sum.
+        windows: u64,
     },
     Quality(f32),
     Column(u64),
@@ -262,18 +306,24 @@ impl fmt::Display for CardFields {
     }
 }
 
-impl fmt::Display for Answer {
-    fn fmt(&self, f: &mut fmt::Formatter<'_>) -> fmt::Result {
+impl Answer {
+    /// The answer with the fields of a form.
+    #[must_use]
+    pub fn text(&self, form: Form) -> String {
         match self {
-            Self::Refused(k) => write!(f, "refused {k}"),
-            Self::Count(n) | Self::Column(n) => write!(f, "{n}"),
-            Self::Window { start, sum } => write!(f, "{start} {sum}"),
-            Self::Quality(q) => f.write_str(&f32_bits(*q)),
-            Self::Found(report) => report.fmt(f),
-            Self::Filled(values) => f.write_str(&write_floats(values)),
-            Self::Decided(yes) => f.write_str(if *yes { "yes" } else { "no" }),
-            Self::Opened => f.write_str("opened"),
-            Self::Took(n) => write!(f, "took {n}"),
+            Self::Refused(k) => format!("refused {k}"),
+            Self::Count(n) | Self::Column(n) => n.to_string(),
+            Self::Window {
+                start,
+                sum,
+                windows,
+            } => format!("{start} {sum}{}", form.windows(*windows)),
+            Self::Quality(q) => f32_bits(*q),
+            Self::Found(report) => report.to_string(),
+            Self::Filled(values) => write_floats(values),
+            Self::Decided(yes) => (if *yes { "yes" } else { "no" }).to_owned(),
+            Self::Opened => "opened".to_owned(),
+            Self::Took(n) => format!("took {n}"),
             Self::Read {
                 end,
                 taken,
@@ -281,26 +331,35 @@ impl fmt::Display for Answer {
             } => match end {
                 End::Reported {
                     start,
+                    windows,
                     start_quality,
                     report,
-                } => write!(
-                    f,
-                    "reported {taken} {evaluations} {start} {} {report}",
+                } => format!(
+                    "reported {taken} {evaluations} {start}{} {} {report}",
+                    form.windows(*windows),
                     f32_bits(*start_quality)
                 ),
-                End::Unfound => write!(f, "unfound {taken} {evaluations}"),
+                End::Unfound => format!("unfound {taken} {evaluations}"),
                 End::CutShort {
                     start,
+                    windows,
                     start_quality,
-                } => write!(
-                    f,
-                    "cutshort {taken} {evaluations} {start} {}",
+                } => format!(
+                    "cutshort {taken} {evaluations} {start}{} {}",
+                    form.windows(*windows),
                     f32_bits(*start_quality)
                 ),
             },
-            Self::Bytes(bytes) => f.write_str(&write_bytes(bytes)),
-            Self::Card(card) => card.fmt(f),
+            Self::Bytes(bytes) => write_bytes(bytes),
+            Self::Card(card) => card.to_string(),
         }
+    }
+}
+
+/// In the newest form.
+impl fmt::Display for Answer {
+    fn fmt(&self, f: &mut fmt::Formatter<'_>) -> fmt::Result {
+        f.write_str(&self.text(Form::NEWEST))
     }
 }
 

@@ -2,8 +2,8 @@
 
 use crate::list::{bits, decimal};
 use crate::{
-    read_bytes, read_floats, read_numbers, Answer, Call, CardFields, End, Error, Length, Report,
-    Source, Version,
+    read_bytes, read_floats, read_numbers, Answer, Call, CardFields, End, Error, Form, Length,
+    Report, Source, Version,
 };
 
 /// The calls of version 2 that are not here yet, and whether the session opened
@@ -30,7 +30,14 @@ pub struct Entry {
     /// The line's number, from 1.
     pub line: usize,
     pub call: Call,
-    pub answer: Option<Answer>,
+    pub answer: Option<RecordedAnswer>,
+}
+
+/// An answer with the form that its line has. A field that the form lacks is 0.
+#[derive(Clone, Debug, PartialEq)]
+pub struct RecordedAnswer {
+    pub answer: Answer,
+    pub form: Form,
 }
 
 /// The calls of a recording in order.
@@ -82,7 +89,7 @@ pub fn parse(text: &str, source: Source<'_>, answers: bool) -> Result<Recording,
         } else {
             let call = parse_call(version, call, source).map_err(at(number))?;
             let answer = answer
-                .map(|a| parse_answer(&call, a, source))
+                .map(|a| parse_answer(version, &call, a, source))
                 .transpose()
                 .map_err(at(number))?;
             (call, answer)
@@ -108,16 +115,17 @@ fn later_call(text: &str, answer: Option<&str>) -> Option<Call> {
     })
 }
 
-/// A call whose answer has the fields of a change that is not here yet: a count
-/// of windows, an origin, a mode, or what 66 bytes of a card hold.
+/// A call whose answer has the fields of a change that is not here yet: an
+/// origin, a mode, or what 66 bytes of a card hold.
 fn later_answer(text: &str, answer: &str) -> Option<Call> {
     let (call, fields): (Vec<&str>, Vec<&str>) =
         (text.split(' ').collect(), answer.split(' ').collect());
-    let more = match (call[..].first()?, fields[..].first()?) {
-        (&"window", _) => fields.len() == 3,
-        (&"read", &"reported") => fields.len() > 9,
-        (&"read", &"cutshort") => fields.len() > 5,
-        (&"uncard", _) => call.last()?.len() == 2 * 66 && answer != "refused 12",
+    let more = match (&call[..], &fields[..]) {
+        (["read"], ["reported" | "cutshort", "mode", ..]) => true,
+        // The origin, and in a report the card's skip too.
+        (["read"], ["reported", values @ ..]) => values.len() == 11,
+        (["read"], ["cutshort", values @ ..]) => values.len() == 6,
+        (["uncard", bytes], _) => bytes.len() == 2 * 66 && answer != "refused 12",
         _ => false,
     };
     more.then(|| Call::Later {
@@ -268,17 +276,37 @@ fn parse_call(version: Version, text: &str, source: Source<'_>) -> Result<Call, 
     })
 }
 
-fn parse_answer(call: &Call, text: &str, source: Source<'_>) -> Result<Answer, String> {
+/// The words where a form may have a count of windows: that count, or 0, and the
+/// form. `None` for words that no form of this version has there.
+fn windows_and_form(version: Version, words: &[&str]) -> Result<Option<(u64, Form)>, String> {
+    Ok(match words {
+        [] => Some((0, Form::First)),
+        [count] if version.form() >= Form::Windows => Some((number(count)?, Form::Windows)),
+        _ => None,
+    })
+}
+
+fn parse_answer(
+    version: Version,
+    call: &Call,
+    text: &str,
+    source: Source<'_>,
+) -> Result<RecordedAnswer, String> {
     let words: Vec<&str> = text.split(' ').collect();
-    if let ["refused", k] = words[..] {
-        return Ok(Answer::Refused(number(k)?));
-    }
-    Ok(match (call, &words[..]) {
+    let other = || format!("an answer to this call, or `refused K`, instead of `{text}`");
+    let mut form = version.form();
+    let answer = match (call, &words[..]) {
+        (_, ["refused", k]) => Answer::Refused(number(k)?),
         (Call::Columns { .. }, [n]) => Answer::Count(number(n)?),
-        (Call::Window { .. }, [start, sum]) => Answer::Window {
-            start: number(start)?,
-            sum: number(sum)?,
-        },
+        (Call::Window { .. }, [start, sum, more @ ..]) => {
+            let (windows, with) = windows_and_form(version, more)?.ok_or_else(other)?;
+            form = with;
+            Answer::Window {
+                start: number(start)?,
+                sum: number(sum)?,
+                windows,
+            }
+        }
         (Call::Quality { .. }, [q]) => Answer::Quality(single(q)?),
         (Call::Edge { .. }, [n]) => Answer::Column(number(n)?),
         (Call::Find { .. }, [rate, slant, skip, quality]) => {
@@ -289,19 +317,20 @@ fn parse_answer(call: &Call, text: &str, source: Source<'_>) -> Result<Answer, S
         (Call::Probe { .. }, ["no"]) => Answer::Decided(false),
         (Call::Open { .. }, ["opened"]) => Answer::Opened,
         (Call::Feed { .. }, ["took", n]) => Answer::Took(number(n)?),
-        (Call::Read, [end, taken, evaluations, rest @ ..]) => Answer::Read {
-            end: parse_end(end, rest)?,
-            taken: number(taken)?,
-            evaluations: number(evaluations)?,
-        },
+        (Call::Read, [end, taken, evaluations, rest @ ..]) => {
+            let (end, with) = parse_end(version, end, rest)?;
+            form = with;
+            Answer::Read {
+                end,
+                taken: number(taken)?,
+                evaluations: number(evaluations)?,
+            }
+        }
         (Call::WriteCard { .. }, [bytes]) => Answer::Bytes(read_bytes(bytes)?),
         (Call::ReadCard { .. } | Call::SessionCard, fields) => Answer::Card(card(fields)?),
-        _ => {
-            return Err(format!(
-                "an answer to this call, or `refused K`, instead of `{text}`"
-            ))
-        }
-    })
+        _ => return Err(other()),
+    };
+    Ok(RecordedAnswer { answer, form })
 }
 
 fn report(rate: &str, slant: &str, skip: &str, quality: &str) -> Result<Report, String> {
@@ -317,22 +346,30 @@ fn report(rate: &str, slant: &str, skip: &str, quality: &str) -> Result<Report, 
     })
 }
 
-fn parse_end(end: &str, rest: &[&str]) -> Result<End, String> {
+fn parse_end(version: Version, end: &str, rest: &[&str]) -> Result<(End, Form), String> {
+    let other =
+        || format!("`reported`, `unfound` or `cutshort` with its values instead of `{end}`");
     Ok(match (end, rest) {
-        ("reported", [start, start_quality, rate, slant, skip, quality]) => End::Reported {
-            start: number(start)?,
-            start_quality: single(start_quality)?,
-            report: report(rate, slant, skip, quality)?,
-        },
-        ("unfound", []) => End::Unfound,
-        ("cutshort", [start, start_quality]) => End::CutShort {
-            start: number(start)?,
-            start_quality: single(start_quality)?,
-        },
-        _ => {
-            return Err(format!(
-                "`reported`, `unfound` or `cutshort` with its values instead of `{end}`"
-            ))
+        ("reported", [start, more @ .., start_quality, rate, slant, skip, quality]) => {
+            let (windows, form) = windows_and_form(version, more)?.ok_or_else(other)?;
+            let end = End::Reported {
+                start: number(start)?,
+                windows,
+                start_quality: single(start_quality)?,
+                report: report(rate, slant, skip, quality)?,
+            };
+            (end, form)
         }
+        ("unfound", []) => (End::Unfound, version.form()),
+        ("cutshort", [start, more @ .., start_quality]) => {
+            let (windows, form) = windows_and_form(version, more)?.ok_or_else(other)?;
+            let end = End::CutShort {
+                start: number(start)?,
+                windows,
+                start_quality: single(start_quality)?,
+            };
+            (end, form)
+        }
+        _ => return Err(other()),
     })
 }

@@ -73,7 +73,7 @@ impl<'a> Turns<'a> {
     }
 }
 
-/// Makes each call again and compares.
+/// Makes each call again and compares the fields that its line has.
 pub fn replay(name: &str, recording: &Recording, machine: &mut dyn Machine) -> Outcome {
     let mut outcome = Outcome::default();
     let mut turns = Turns::new(machine);
@@ -83,7 +83,7 @@ pub fn replay(name: &str, recording: &Recording, machine: &mut dyn Machine) -> O
             outcome.left_out += 1;
             continue;
         };
-        let (recorded, got) = (recorded.to_string(), got.to_string());
+        let (recorded, got) = (recorded.answer.text(recorded.form), got.text(recorded.form));
         if recorded == got {
             outcome.passed += 1;
         } else {
@@ -101,7 +101,8 @@ pub fn replay(name: &str, recording: &Recording, machine: &mut dyn Machine) -> O
     outcome
 }
 
-/// The recording with this machine's answers, in its own version.
+/// The recording with this machine's answers, in its own version and the form of
+/// that version.
 pub fn record(recording: &Recording, machine: &mut dyn Machine) -> Recorded {
     let mut recorded = Recorded {
         text: format!("{}\n", recording.version.header()),
@@ -111,6 +112,7 @@ pub fn record(recording: &Recording, machine: &mut dyn Machine) -> Recorded {
     for entry in &recording.entries {
         match turns.make(entry) {
             Some(answer) => {
+                let answer = answer.text(recording.version.form());
                 let _ = writeln!(recorded.text, "{} = {answer}", entry.call);
             }
             None => recorded.left_out += 1,

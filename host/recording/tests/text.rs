@@ -2,15 +2,16 @@
 //! of a recording is refused with its line's number.
 
 use recording::{
-    parse, record, replay, Answer, Call, CardFields, Error, Length, Machine, Source, Version,
-    HEADER, MOST_ELEMENTS,
+    parse, record, replay, Answer, Call, CardFields, End, Error, Form, Length, Machine, Outcome,
+    RecordedAnswer, Recording, Report, Source, Version, HEADER, MOST_ELEMENTS,
 };
 use std::path::Path;
 
+/// Lines that are the same in both versions.
 const LINES: &str = "\
 columns 0 700 = 28
 columns 16 700 = refused 1
-window 2 5,2*1,5 = 3 10
+window 5 4*5 = refused 9
 quality 4 240 700*0 = 00000000
 edge 349*0,1,350*0 = 350
 find 0 40c5888000000000 * * 100*0,5*1 = 40c5888000000000 none -221 00000000
@@ -20,10 +21,58 @@ probe 0000000000000000 258*00000000 = no
 open 9 4611686018427387904 * * 4*00000000 = opened
 feed * * * * 64*0 256*00000000 = took 64
 read = refused 11
-read = reported 5 1 7 3f800000 40c5888000000000 4056800000000000 -1 3f000000
 read = unfound 9447 1
+";
+
+/// Lines whose answers have a count of windows since document 02, A.3: before it
+/// and with it.
+const FIRST: &str = "\
+window 2 5,2*1,5 = 3 10
+read = reported 5 1 7 3f800000 40c5888000000000 4056800000000000 -1 3f000000
 read = cutshort 9447 3 1 3f800000
 ";
+const WINDOWS: &str = "\
+window 2 5,2*1,5 = 3 10 1
+read = reported 5 1 7 700 3f800000 40c5888000000000 4056800000000000 -1 3f000000
+read = cutshort 9447 3 1 2 3f800000
+";
+
+/// What a machine says to the three of them.
+fn counted() -> [Answer; 3] {
+    let reported = End::Reported {
+        start: 7,
+        windows: 700,
+        start_quality: 1.0,
+        report: Report {
+            rate: 11_025.0,
+            slant: Some(90.0),
+            skip: -1,
+            quality: 0.5,
+        },
+    };
+    let cut_short = End::CutShort {
+        start: 1,
+        windows: 2,
+        start_quality: 1.0,
+    };
+    [
+        Answer::Window {
+            start: 3,
+            sum: 10,
+            windows: 1,
+        },
+        Answer::Read {
+            end: reported,
+            taken: 5,
+            evaluations: 1,
+        },
+        Answer::Read {
+            end: cut_short,
+            taken: 9_447,
+            evaluations: 3,
+        },
+    ]
+}
 
 fn here() -> Source<'static> {
     Source {
@@ -42,19 +91,31 @@ fn second(lines: &str) -> String {
 /// Answers from a list.
 struct Told(Vec<Option<Answer>>);
 
+impl Told {
+    /// What a recording has.
+    fn by(recording: &Recording) -> Self {
+        let recorded = recording.entries.iter().map(|e| e.answer.as_ref());
+        Self(recorded.map(|r| r.map(|r| r.answer.clone())).collect())
+    }
+}
+
 impl Machine for Told {
     fn make(&mut self, _: &Call) -> Option<Answer> {
         self.0.remove(0)
     }
 }
 
+/// Whether a machine that says what was read writes the same text.
+fn is_written_back(text: &str) {
+    let recording = parse(text, here(), true).unwrap();
+    let written = record(&recording, &mut Told::by(&recording));
+    assert_eq!(written.text, text);
+    assert_eq!((written.left_out, written.notes), (0, Vec::new()));
+}
+
 #[test]
 fn what_is_read_is_written_back() {
-    let recording = parse(&text(LINES), here(), true).unwrap();
-    let answers = recording.entries.iter().map(|e| e.answer.clone());
-    let written = record(&recording, &mut Told(answers.collect()));
-    assert_eq!(written.text, text(LINES));
-    assert_eq!((written.left_out, written.notes), (0, Vec::new()));
+    is_written_back(&text(&format!("{LINES}{FIRST}")));
 }
 
 /// The lines that version 2 has beside those of version 1.
@@ -69,13 +130,235 @@ cardof = 15 2 1 2 3 ffffffff ffffffffffffffff 0 9223372036854775807 00000001
 
 #[test]
 fn a_recording_of_version_2_is_written_back_as_one() {
-    let lines = format!("{LINES}{CARDS}");
-    let recording = parse(&second(&lines), here(), true).unwrap();
-    assert_eq!(recording.version, Version::Two);
-    let answers = recording.entries.iter().map(|e| e.answer.clone());
-    let written = record(&recording, &mut Told(answers.collect()));
-    assert_eq!(written.text, second(&lines));
-    assert_eq!((written.left_out, written.notes), (0, Vec::new()));
+    let lines = second(&format!("{LINES}{WINDOWS}{CARDS}"));
+    let version = parse(&lines, here(), true).unwrap().version;
+    assert_eq!(version, Version::Two);
+    is_written_back(&lines);
+}
+
+/// The answers of a recording, each with its form.
+fn answers(text: &str) -> Vec<RecordedAnswer> {
+    let entries = parse(text, here(), true).unwrap().entries;
+    entries.into_iter().map(|e| e.answer.unwrap()).collect()
+}
+
+#[test]
+fn the_form_of_an_answer_is_told_by_its_words() {
+    let with = |form| counted().map(|answer| RecordedAnswer { answer, form });
+    assert_eq!(answers(&second(WINDOWS)), with(Form::Windows));
+    for before in [text(FIRST), second(FIRST)] {
+        let mut due = with(Form::First);
+        for recorded in &mut due {
+            *windows_of(&mut recorded.answer) = 0;
+        }
+        assert_eq!(answers(&before), due);
+    }
+    // An answer that is the same in each form has that of its version.
+    let all = |text: &str, form| answers(text).iter().all(|recorded| recorded.form == form);
+    assert!(all(&text(LINES), Form::First) && all(&second(LINES), Form::NEWEST));
+}
+
+/// The count of an answer that has one.
+fn windows_of(answer: &mut Answer) -> &mut u64 {
+    match answer {
+        Answer::Window { windows, .. }
+        | Answer::Read {
+            end: End::Reported { windows, .. } | End::CutShort { windows, .. },
+            ..
+        } => windows,
+        _ => panic!("an answer without a count"),
+    }
+}
+
+/// A line's call and answer.
+fn parts(line: &str) -> (&str, &str) {
+    line.split_once(" = ").unwrap()
+}
+
+#[test]
+fn an_answer_is_written_with_the_fields_of_a_form() {
+    for ((answer, first), windows) in counted().iter().zip(FIRST.lines()).zip(WINDOWS.lines()) {
+        assert_eq!(answer.text(Form::First), parts(first).1);
+        assert_eq!(answer.text(Form::Windows), parts(windows).1);
+        assert_eq!(answer.to_string(), answer.text(Form::NEWEST));
+    }
+    let unfound = Answer::Read {
+        end: End::Unfound,
+        taken: 5,
+        evaluations: 6,
+    };
+    for form in [Form::First, Form::NEWEST] {
+        assert_eq!(unfound.text(form), "unfound 5 6");
+        assert_eq!(Answer::Refused(9).text(form), "refused 9");
+    }
+}
+
+/// Three lines replayed on a machine that says [`counted`], changed.
+fn replayed(text: &str, change: impl FnOnce(&mut [Answer; 3])) -> Outcome {
+    let mut answers = counted();
+    change(&mut answers);
+    let recording = parse(text, here(), true).unwrap();
+    replay("a", &recording, &mut Told(answers.map(Some).into()))
+}
+
+#[test]
+fn a_line_is_compared_in_the_fields_that_it_has() {
+    let all = |text: &str| {
+        let outcome = replayed(text, |_| {});
+        assert_eq!(outcome.differences, Vec::<String>::new());
+        assert_eq!((outcome.passed, outcome.left_out), (3, 0));
+    };
+    all(&second(WINDOWS));
+    for before in [text(FIRST), second(FIRST)] {
+        all(&before);
+        for count in [0, 1, u64::MAX] {
+            let outcome = replayed(&before, |answers| {
+                for answer in answers {
+                    *windows_of(answer) = count;
+                }
+            });
+            assert_eq!((outcome.passed, outcome.failed), (3, 0), "{count}");
+        }
+    }
+}
+
+#[test]
+fn another_count_of_windows_is_a_difference_where_the_line_has_one() {
+    for (at, told) in [
+        "a:2: recorded 3 10 1, got 3 10 2",
+        "a:3: recorded reported 5 1 7 700 3f800000 40c5888000000000 4056800000000000 -1 3f000000, \
+         got reported 5 1 7 701 3f800000 40c5888000000000 4056800000000000 -1 3f000000",
+        "a:4: recorded cutshort 9447 3 1 2 3f800000, got cutshort 9447 3 1 3 3f800000",
+    ]
+    .into_iter()
+    .enumerate()
+    {
+        let outcome = replayed(&second(WINDOWS), |all| *windows_of(&mut all[at]) += 1);
+        assert_eq!(outcome.differences, [told]);
+        assert_eq!((outcome.passed, outcome.failed), (2, 1));
+    }
+}
+
+/// A word with another last digit, which a number and a float's bits may have.
+fn another(word: &str) -> Option<String> {
+    let (last, rest) = word.as_bytes().split_last()?;
+    let digit = if *last == b'1' { '2' } else { '1' };
+    let rest = std::str::from_utf8(rest).ok()?;
+    last.is_ascii_digit().then(|| format!("{rest}{digit}"))
+}
+
+#[test]
+fn every_field_that_a_line_has_is_compared() {
+    for (lines, fields) in [
+        (text(FIRST), 2 + 8 + 4),
+        (second(FIRST), 2 + 8 + 4),
+        (second(WINDOWS), 3 + 9 + 5),
+    ] {
+        let mut compared = 0;
+        for line in lines.lines().skip(1) {
+            let (call, answer) = parts(line);
+            let words: Vec<&str> = answer.split(' ').collect();
+            for (at, word) in words.iter().enumerate() {
+                let Some(other) = another(word) else { continue };
+                let mut words = words.clone();
+                words[at] = &other;
+                let changed = format!("{call} = {}", words.join(" "));
+                let outcome = replayed(&lines.replace(line, &changed), |_| {});
+                assert_eq!((outcome.passed, outcome.failed), (2, 1), "{changed}");
+                compared += 1;
+            }
+        }
+        assert_eq!(compared, fields);
+    }
+}
+
+#[test]
+fn a_difference_is_told_in_the_form_of_its_line() {
+    let lines = text("window 2 5,2*1,5 = 4 10\nread = refused 9\nread = unfound 5 1\n");
+    let outcome = replayed(&lines, |_| {});
+    let told = [
+        "a:2: recorded 4 10, got 3 10",
+        "a:3: recorded refused 9, \
+         got reported 5 1 7 3f800000 40c5888000000000 4056800000000000 -1 3f000000",
+        "a:4: recorded unfound 5 1, got cutshort 9447 3 1 3f800000",
+    ];
+    assert_eq!(outcome.differences, told);
+    let outcome = replayed(&lines.replace(HEADER, Version::Two.header()), |_| {});
+    assert_eq!(outcome.differences[0], told[0]);
+    assert!(outcome.differences[1].contains(", got reported 5 1 7 700 3f800000 "));
+    assert!(outcome.differences[2].ends_with(", got cutshort 9447 3 1 2 3f800000"));
+}
+
+#[test]
+fn a_recording_is_written_in_the_newest_form_of_its_version() {
+    let calls = FIRST.lines().map(|line| parts(line).0.to_owned() + "\n");
+    let calls: String = calls.collect();
+    let written = |text: &str| {
+        let recording = parse(text, here(), false).unwrap();
+        record(&recording, &mut Told(counted().map(Some).into())).text
+    };
+    for lines in [FIRST, &calls] {
+        assert_eq!(written(&text(lines)), text(FIRST));
+    }
+    for lines in [FIRST, WINDOWS, &calls] {
+        assert_eq!(written(&second(lines)), second(WINDOWS));
+    }
+}
+
+#[test]
+fn answers_of_no_form_of_their_version() {
+    let window = |words: &str| {
+        let line = format!("window 2 5,2*1,5 = {words}\n");
+        let expected = format!("an answer to this call, or `refused K`, instead of `{words}`");
+        (line, expected)
+    };
+    let read = |end: &str, words: &str| {
+        let line = format!("read = {end} 5 1 {words}\n");
+        let expected =
+            format!("`reported`, `unfound` or `cutshort` with its values instead of `{end}`");
+        (line, expected)
+    };
+    let report = "3f800000 40c5888000000000 none 0";
+    let both = [
+        window("3"),
+        window("3 10 1 1"),
+        read("reported", &format!("{report} 3f800000")),
+        read("reported", &format!("7 1 2 {report} 3f800000")),
+        read("cutshort", "7"),
+        read("unfound", "0"),
+    ];
+    let first = [
+        window("3 10 1"),
+        read("reported", &format!("7 1 {report} 3f800000")),
+        read("reported", &format!("7 1 2 {report} 0 3f800000")),
+        read("cutshort", "7 1 3f800000"),
+        read("cutshort", "7 1 2 3f800000"),
+    ];
+    let error = |text: &str| parse(text, here(), true).unwrap_err();
+    for (line, expected) in both.iter().chain(&first) {
+        let due = Error {
+            line: 2,
+            expected: expected.clone(),
+        };
+        assert_eq!(error(&text(line)), due, "{line}");
+    }
+    for (line, expected) in both {
+        assert_eq!(error(&second(&line)), Error { line: 2, expected });
+    }
+    for (line, _) in first {
+        assert!(parse(&second(&line), here(), true).is_ok(), "{line}");
+    }
+    for (line, word) in [
+        ("window 1 5 = 0 5 -1", "-1"),
+        ("window 1 5 = 0 5 ", ""),
+        (
+            "read = cutshort 5 1 7 18446744073709551616 3f800000",
+            "18446744073709551616",
+        ),
+    ] {
+        let expected = format!("a decimal number instead of `{word}`");
+        assert_eq!(error(&second(line)), Error { line: 2, expected });
+    }
 }
 
 #[test]
@@ -97,7 +380,8 @@ fn the_words_of_a_card() {
     let call = Call::WriteCard { buffer, card };
     assert_eq!(recording.entries[0].call, call);
     let bytes = Answer::Bytes(vec![0x53, 0x53, 0x52, 1, 0]);
-    assert_eq!(recording.entries[0].answer, Some(bytes));
+    let answer = recording.entries[0].answer.as_ref();
+    assert_eq!(answer.map(|recorded| &recorded.answer), Some(&bytes));
     let bytes = vec![0x00, 0xff, 0x5a];
     assert_eq!(recording.entries[3].call, Call::ReadCard { bytes });
     assert_eq!(recording.entries[4].call, Call::SessionCard);
@@ -226,8 +510,9 @@ fn calls_that_are_not_here_yet_are_left_out_and_said() {
 fn answers_that_are_not_here_yet_are_left_out_and_said() {
     let card = "00".repeat(66);
     let lines = format!(
-        "window 1 5 = 0 5 1\n\
-         read = reported 9 1 4 1 4 3f800000 40c5888000000000 none 0 0 3f800000\n\
+        "read = reported 9 1 4 1 4 3f800000 40c5888000000000 none 0 0 3f800000\n\
+         read = cutshort 9 1 4 1 4 3f800000\n\
+         read = reported mode 4 9 1 4 1 4 3f800000 40c5888000000000 none 0 0 3f800000\n\
          read = cutshort mode 4 9 1 4 1 4 3f800000\n\
          uncard {card} = 4 1 9 1 0 00000000 0000000000000000 255 0 00000000 0 0\n\
          uncard {card} = refused 13\n\
@@ -238,8 +523,9 @@ fn answers_that_are_not_here_yet_are_left_out_and_said() {
     let mut told = Told(vec![Some(Answer::Refused(12)), Some(Answer::Refused(11))]);
     let outcome = replay("a.txt", &recording, &mut told);
     assert_eq!(outcome.differences, Vec::<String>::new());
-    assert_eq!((outcome.passed, outcome.left_out), (2, 5));
-    let due = ["window", "read", "read", "uncard", "uncard"];
+    assert_eq!((outcome.passed, outcome.left_out), (2, 6));
+    let due = ["read", "read", "read", "read", "uncard", "uncard"];
+    assert_eq!(outcome.notes.len(), due.len());
     for ((note, word), line) in outcome.notes.iter().zip(due).zip(2..) {
         let why = format!("left out, this reader does not have such an answer of `{word}` yet");
         assert_eq!(*note, format!("a.txt:{line}: {why}"));
@@ -247,8 +533,10 @@ fn answers_that_are_not_here_yet_are_left_out_and_said() {
     // A machine that records makes its own; version 1 has no such answers.
     let calls = parse(&second(&lines), here(), false).unwrap().entries;
     let answered = calls.iter().filter(|entry| entry.answer.is_some());
-    assert_eq!((calls.len(), answered.count()), (7, 2));
-    assert_eq!(parse(&text(&lines), here(), true).unwrap_err().line, 2);
+    assert_eq!((calls.len(), answered.count()), (8, 2));
+    for line in lines.lines().take(6) {
+        assert_eq!(parse(&text(line), here(), true).unwrap_err().line, 2);
+    }
 }
 
 #[test]

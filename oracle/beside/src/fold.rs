@@ -2,33 +2,27 @@
 
 use crate::run::Run;
 use drive::modes::MODES;
-use drive::pulse::{list, long_list, COLUMNS, LONGEST};
+use drive::pulse::{add_top, list, long_list, COLUMNS, LONGEST};
+use drive::ring;
 use drive::rng::Rng;
 use drive::tally::Tally;
-use recording::{Answer, Call};
+use recording::Call;
 use slowrx::modespec::access::spec;
 use slowrx::sync::access as sync;
+
+/// What stands before the classes of a window.
+const WINDOW: &str = "window: ";
 
 /// The classes of these calls.
 #[must_use]
 pub fn tally() -> Tally {
-    Tally::new(
+    let mut tally = Tally::new(
         "columns, window, quality, edge",
         &[
             "columns: n 0",
             "columns: n 65,536",
             "columns: held at 1",
             "columns: inside",
-            "window: one count",
-            "window: 65,536 counts",
-            "window: width n",
-            "window: width 1",
-            "window: all equal",
-            "window: tie, the first wins",
-            "window: wraps",
-            "window: at 0",
-            "window: at n - 1",
-            "window: sum above 2^32",
             "quality: no counts",
             "quality: no lines",
             "quality: 65,536 counts",
@@ -51,7 +45,9 @@ pub fn tally() -> Tally {
             "edge: behind a rise over 600 columns",
             "edge: a count of 1,000,000",
         ],
-    )
+    );
+    ring::announce_list(&mut tally, WINDOW);
+    tally
 }
 
 /// Some of each.
@@ -107,49 +103,45 @@ fn counts(rng: &mut Rng) -> Vec<u32> {
     list(rng, n)
 }
 
+/// Counts with pulses of which several windows of this width have the largest
+/// sum, often over the ring's end.
+fn tops(rng: &mut Rng, n: usize, width: usize) -> Vec<u32> {
+    let mut counts = vec![rng.below(3) as u32; n];
+    for _ in 0..1 + rng.index(3) {
+        let most = rng.pick(&[1, 3, 12, n]).min(n - width + 1);
+        let windows = 1 + rng.index(most);
+        let start = match rng.below(4) {
+            0 => n - windows,
+            1 => n - 1,
+            _ => rng.index(n),
+        };
+        add_top(&mut counts, 1 + rng.below(3) as u32, start, width, windows);
+    }
+    counts
+}
+
 fn window(run: &mut Run, rng: &mut Rng) {
     let mut counts = counts(rng);
     let n = counts.len();
     if rng.permille(60) {
         counts[n - 1] = u32::MAX;
     }
+    // The Rust's side takes n times the width for its count.
+    let wide = rng.pick(&[4_096, 4_096, 4_096, LONGEST]).min(n);
     let width = match rng.below(6) {
         0 => n,
         1 => 1,
         2 => sync::sync_pulse_columns(spec(rng.index(MODES)), n),
-        _ => 1 + rng.index(n),
+        _ => 1 + rng.index(wide),
     };
-    let call = Call::Window {
+    if rng.permille(250) {
+        counts = tops(rng, n, width);
+    }
+    ring::note_list(&mut run.classes.fold, WINDOW, &counts, width);
+    run.make(&Call::Window {
         width: width as u64,
         counts,
-    };
-    let Answer::Window { start, sum } = run.make(&call) else {
-        return;
-    };
-    let Call::Window { counts, .. } = call else {
-        return;
-    };
-    note_window(&mut run.classes.fold, &counts, width, start as usize, sum);
-}
-
-fn note_window(tally: &mut Tally, counts: &[u32], width: usize, start: usize, sum: u64) {
-    let n = counts.len();
-    let equal = n > 1 && counts.iter().all(|&c| c == counts[0]);
-    let sum_at = |s: usize| {
-        let ring = (0..width).map(|i| u64::from(counts[(s + i) % n]));
-        ring.sum::<u64>()
-    };
-    let tie = n <= 64 && !equal && (start + 1..n).any(|s| sum_at(s) == sum);
-    tally.note("window: one count", n == 1);
-    tally.note("window: 65,536 counts", n == LONGEST);
-    tally.note("window: width n", width == n && n > 1);
-    tally.note("window: width 1", width == 1);
-    tally.note("window: all equal", equal);
-    tally.note("window: tie, the first wins", tie);
-    tally.note("window: wraps", start + width > n);
-    tally.note("window: at 0", start == 0 && !equal);
-    tally.note("window: at n - 1", start + 1 == n && n > 1);
-    tally.note("window: sum above 2^32", sum >> 32 > 0);
+    });
 }
 
 /// A fold as a picture gives it: a pulse on most lines, hits elsewhere.

@@ -128,9 +128,31 @@ pub fn hanging(rng: &mut Rng, mode: usize) -> Picture {
     let capacity = shortest(mode) + rng.index(3_000);
     let flags = capacity + 500;
     let mut sound = drive::shaped::hanging(rng, mode);
-    sound.flags.resize(flags, false);
-    sound.samples.resize(4 * flags + 4, 0.0);
+    sound.silence(flags);
     Picture::new(Heard::new(mode, sound), capacity)
+}
+
+/// A start with several windows of the largest sum: a list whose evaluations have
+/// three counts, or a picture with longer pulses, now and then cut short. Only
+/// its first lines have pulses.
+pub fn flat_top(rng: &mut Rng, mode: usize) -> Picture {
+    let roomy = shortest(mode) + rng.index(3_000);
+    if rng.permille(400) {
+        let mut sound = drive::shaped::three_counts(rng, mode);
+        sound.silence(roomy + 500);
+        return Picture::new(Heard::new(mode, sound), roomy);
+    }
+    let (line, w) = (line_flags(mode), taken_at(mode, 0));
+    let far = rng.permille(600);
+    let lead_in = if far { w + 3 * line } else { 0 } + rng.index(line);
+    let mut scene = Scene::clean(mode, lead_in, roomy + lead_in);
+    let pulse = (spec(mode).sync_seconds * RATE / 4.0) as usize;
+    scene.longer = rng.pick(&[1 + pulse / 8, pulse / 2, pulse, 2 * pulse, 3 * pulse]);
+    scene.gap = (2 * sync_start::window_lines(spec(mode)), usize::MAX);
+    let heard = Heard::new(mode, scene.sound(rng));
+    let full = heard.full().filter(|&full| full > shortest(mode));
+    let capacity = full.map_or(roomy, |full| full - rng.index(2));
+    Picture::new(heard, capacity)
 }
 
 /// Noise up to F, or silence.
@@ -148,7 +170,7 @@ pub fn late(rng: &mut Rng, mode: usize) -> Picture {
     let lead_in = shortest(mode) + rng.index(1_000);
     let flags = lead_in + 2 * taken_at(mode, 0);
     let heard = Heard::new(mode, Scene::clean(mode, lead_in, flags).sound(rng));
-    let at = heard.start.map_or(flags, |(taken, _, _)| taken);
+    let at = heard.start.map_or(flags, |(taken, _)| taken);
     let less = usize::from(rng.permille(300));
     Picture::new(heard, at - less)
 }

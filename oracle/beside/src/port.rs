@@ -43,6 +43,7 @@ pub fn make(call: &Call) -> Made {
             funnelivy::best_pulse_window(counts, *width).map(|best| Answer::Window {
                 start: best.start,
                 sum: best.sum,
+                windows: best.windows,
             })
         }
         Call::Quality {

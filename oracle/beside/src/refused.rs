@@ -127,10 +127,11 @@ fn columns(causes: &mut Causes) -> Call {
 
 fn window(causes: &mut Causes) -> Call {
     let n = causes.rng.pick(&[0, 1, 2, 4, 700, 65_536, 65_537]);
+    // not much wider: the Rust's side takes n times the width for its count
     let width = match causes.rng.below(4) {
         0 => 0,
         1 => n + 1,
-        _ => n,
+        _ => n.min(700),
     };
     Call::Window {
         width,

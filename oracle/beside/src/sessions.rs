@@ -25,7 +25,8 @@ pub use classes::tally;
 pub const FAR: u64 = 1 << 62;
 
 /// One picture in the round's mode; now and then a start that depends on one
-/// flag, a long search, or tones that come too late.
+/// flag, one with several windows of the largest sum, a long search, or tones that
+/// come too late.
 pub fn round(run: &mut Run, rng: &mut Rng) {
     let round = run.round;
     let picture = pictures::regular(rng, round);
@@ -34,6 +35,11 @@ pub fn round(run: &mut Run, rng: &mut Rng) {
         let mode = rng.index(MODES);
         let picture = pictures::hanging(rng, mode);
         classes::note_hanging(run, &picture.heard);
+        twice(run, rng, &picture);
+    }
+    if round % 4 == 3 {
+        let mode = rng.index(MODES);
+        let picture = pictures::flat_top(rng, mode);
         twice(run, rng, &picture);
     }
     let short = 7 + rng.index(2);
@@ -148,6 +154,7 @@ impl Driven<'_> {
     /// From open to the end and beyond. Gives what the port reads.
     fn through(&mut self, rng: &mut Rng) -> Answer {
         let opened = self.port.opened();
+        let opened = self.with_record(opened);
         self.compare("open", 0, &Answer::Opened, opened);
         while !self.plain.ended() {
             if rng.permille(60) {
@@ -228,10 +235,20 @@ impl Driven<'_> {
             }
             Answer::Took((self.plain.taken - before) as u64)
         };
+        let port = self.with_record(port);
         self.compare("feed", m, &rust, port);
         if let Answer::Took(took) = rust {
             classes::note_piece(self.run, &self.plain, m, took as usize);
         }
+    }
+
+    /// What was made, and what is wrong with the record's count of windows, where
+    /// it can be seen.
+    fn with_record(&self, (answer, fault): Made) -> Made {
+        let windows = self.port.windows();
+        let wrong = windows.is_some_and(|n| usize::from(n) != self.plain.windows());
+        let what = "the record has another count of windows";
+        (answer, fault.or(wrong.then_some(what)))
     }
 
     /// A feed that is refused for one cause or two.

@@ -4,6 +4,7 @@
 use crate::live::Live;
 use crate::places;
 use crate::record::{bits32, bits64};
+use crate::ring;
 use crate::search::NOWHERE;
 use rustfft::num_complex::Complex;
 use slowrx::dsp::access as dsp;
@@ -190,8 +191,10 @@ pub fn pulse(v: &Vector, _: &mut Live) -> Option<bool> {
     };
     Some(match v.op {
         0 => {
-            let (start, sum) = sync::best_pulse_window(&counts, v.a as usize);
-            (start as u64, sum) == (v.x, v.y)
+            let width = v.a as usize;
+            let (start, sum) = sync::best_pulse_window(&counts, width);
+            let windows = ring::windows(&counts, width) as u64;
+            (start as u64, sum, windows) == (v.x, v.y, v.z)
         }
         1 => {
             let row = modespec::spec(v.a as usize);
@@ -251,38 +254,45 @@ fn at(mode: usize, j: usize, flags: &[bool], samples: &[f32], streak: u32) -> Pl
     Placed::new(row, &flags[..taken], known, j, (64 * j).min(65), streak)
 }
 
+/// How many windows of the evaluation's fold have the largest sum.
+fn windows(mode: usize, placed: &Placed) -> u64 {
+    let width = sync::sync_pulse_columns(modespec::spec(mode), 700);
+    ring::windows(&placed.counts(), width) as u64
+}
+
+/// One evaluation: position or all ones, streak, and the quality below the count
+/// of windows.
+fn evaluated(mode: usize, placed: &mut Placed) -> [u64; 3] {
+    let start = placed.evaluate();
+    let position = start.map_or(NOWHERE, |start| start.position);
+    let windows = start.map_or(0, |_| windows(mode, placed));
+    let quality = bits32(placed.last_quality());
+    [position, placed.streak().into(), quality + (windows << 32)]
+}
+
 /// sync_start, both files.
 pub fn start(v: &Vector, _: &mut Live) -> Option<bool> {
     let mode = v.a as usize;
     let mut rest = v.payload;
     let flags = counted_flags(&mut rest)?;
-    let mut position = None;
+    let answer = [v.x, v.y, v.z];
     Some(match v.op {
         0 => {
             let samples = samples(rest, 4 * (flags.len() + 1))?;
             let mut placed = at(mode, v.b as usize, &flags, &samples, v.c as u32);
-            let found = placed.evaluate().map_or(NOWHERE, |(position, _)| position);
-            let quality = bits32(placed.last_quality());
-            [found, u64::from(placed.streak()), quality] == [v.x, v.y, v.z]
+            evaluated(mode, &mut placed) == answer
         }
         1 => {
             let qualities: Option<Vec<u32>> = (0..v.c).map(|_| word(&mut rest)).collect();
             let samples = samples(rest, 4 * (flags.len() + 1))?;
-            let (mut streak, mut made, mut last) = (0, Vec::new(), 0);
+            let (mut last, mut made) = ([NOWHERE, 0, 0], Vec::new());
             let w = sync_start::window_probes(modespec::spec(mode));
-            while position.is_none() && w + 64 * made.len() <= flags.len() {
-                let mut placed = at(mode, made.len(), &flags, &samples, streak);
-                position = placed.evaluate().map(|(position, _)| position);
-                streak = placed.streak();
-                last = placed.last_quality().to_bits();
-                made.push(last);
+            while last[0] == NOWHERE && w + 64 * made.len() <= flags.len() {
+                let mut placed = at(mode, made.len(), &flags, &samples, last[1] as u32);
+                last = evaluated(mode, &mut placed);
+                made.push(last[2] as u32);
             }
-            let answer = [
-                position.unwrap_or(NOWHERE),
-                u64::from(streak),
-                u64::from(last),
-            ];
-            made == qualities? && answer == [v.x, v.y, v.z] && v.b == flags.len() as u64
+            made == qualities? && last == answer && v.b == flags.len() as u64
         }
         2 => {
             let placed = at(mode, v.b as usize, &flags, &[], 0);
@@ -322,11 +332,19 @@ pub fn session(v: &Vector, live: &mut Live) -> Option<bool> {
             let Some(read) = live.read() else {
                 return Some(v.x == 11 && v.payload.is_empty());
             };
-            let (mut words, card) = v.payload.split_at_checked(64)?;
+            let (mut words, card) = v.payload.split_at_checked(72)?;
             let wanted: Vec<u64> = std::iter::from_fn(|| number(&mut words)).collect();
             let like = v.x == 0 && read.0 == v.y && read.1[..] == wanted;
-            let fields = places::of_reading(live.mode(), read);
-            Some(like && places::read(card) == Ok(fields))
+            let mode = live.mode();
+            let windows = match read {
+                (1, _) => 0,
+                (_, numbers) => {
+                    let j = numbers[1] as usize - 1;
+                    windows(mode, &at(mode, j, live.flags(), &[], 0))
+                }
+            };
+            let fields = places::of_reading(mode, read);
+            Some(like && windows == wanted[3] && places::read(card) == Ok(fields))
         }
         _ => None,
     }

@@ -3,6 +3,7 @@
 //! made from the document alone. A float is kept as its bits: what a card is
 //! refused for hangs on bits in one place and on values in another.
 
+use crate::plain::Reading;
 use slowrx::sync::access::{angle_degrees, ANGLES};
 
 /// Bytes of a card.
@@ -116,14 +117,14 @@ fn next<const N: usize>(bytes: &mut &[u8]) -> Option<[u8; N]> {
 }
 
 impl Card {
-    /// The card of a session in `mode` that reads as `reading` (the end and
-    /// eight numbers, as `plain` and `live` give them).
+    /// The card of a session in `mode` with this reading. The count of windows is
+    /// not on it.
     ///
     /// # Panics
     /// If the slant is none of the Rust's angles.
     #[must_use]
-    pub fn of(mode: usize, (end, numbers): (u64, [u64; 8])) -> Self {
-        let [taken, evaluations, start, start_quality, rate, slant, skip, quality] = numbers;
+    pub fn of(mode: usize, (end, numbers): Reading) -> Self {
+        let [taken, evaluations, start, _, start_quality, rate, slant, skip, quality] = numbers;
         Self {
             mode: mode as u8,
             end: end as u8,

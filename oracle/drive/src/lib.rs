@@ -18,6 +18,7 @@ pub mod plain;
 pub mod pulse;
 pub mod record;
 pub mod refusals;
+pub mod ring;
 pub mod rng;
 pub mod sample;
 pub mod scene;

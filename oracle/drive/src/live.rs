@@ -1,6 +1,7 @@
 //! A session that runs as its calls come in, over the Rust's detector and
 //! `find_sync`. It is written apart from the one that made the vectors.
 
+use crate::plain::Reading;
 use crate::search::Search;
 use slowrx::modespec::access::spec;
 use slowrx::sync::access::{self as sync, Found, Scratch};
@@ -115,26 +116,36 @@ impl Live {
         self.state.as_ref().expect("a session is open").mode
     }
 
+    /// The flags that it has taken.
+    ///
+    /// # Panics
+    /// Before an open.
+    #[must_use]
+    pub fn flags(&self) -> &[bool] {
+        &self.state.as_ref().expect("a session is open").flags
+    }
+
     /// End and numbers, or nothing before the end.
     ///
     /// # Panics
     /// Before an open.
     #[must_use]
-    pub fn read(&self) -> Option<(u64, [u64; 8])> {
+    pub fn read(&self) -> Option<Reading> {
         let state = self.state.as_ref().expect("a session is open");
         let end = state.end?;
-        let mut numbers = [0; 8];
+        let mut numbers = [0; 9];
         numbers[0] = state.flags.len() as u64;
         numbers[1] = state.search.evaluations.len() as u64;
-        if let Some((position, quality)) = state.start {
-            numbers[2] = state.anchor + position;
-            numbers[3] = u64::from(quality.to_bits());
+        if let Some(start) = state.start {
+            numbers[2] = state.anchor + start.position;
+            numbers[3] = start.windows as u64;
+            numbers[4] = u64::from(start.quality.to_bits());
         }
         if let Some(report) = state.report {
-            numbers[4] = report.rate.to_bits();
-            numbers[5] = report.slant.map_or(u64::MAX, f64::to_bits);
-            numbers[6] = report.skip as u64;
-            numbers[7] = u64::from(report.quality.to_bits());
+            numbers[5] = report.rate.to_bits();
+            numbers[6] = report.slant.map_or(u64::MAX, f64::to_bits);
+            numbers[7] = report.skip as u64;
+            numbers[8] = u64::from(report.quality.to_bits());
         }
         Some((end, numbers))
     }
@@ -148,8 +159,8 @@ impl State {
             self.start = self.search.step(flag, four);
         }
         let row = spec(self.mode);
-        if let Some((position, _)) = self.start {
-            let f = (position / 4) as usize;
+        if let Some(start) = self.start {
+            let f = (start.position / 4) as usize;
             if taken == f + sync::image_probes(row, 11_025.0) {
                 self.report = Some(sync::find_sync(&self.flags[f..], 11_025.0, row, scratch));
                 self.end = Some(0);

@@ -2,7 +2,7 @@
 
 use crate::card::{Card, LENGTH};
 use crate::live::Live;
-use crate::plain::{shortest, IMG, VOTES};
+use crate::plain::{shortest, Reading, IMG, VOTES};
 use crate::refusals;
 use crate::scene::is_robot;
 use recording::{Answer, Call, CardFields, End, Length, Machine, Report};
@@ -14,7 +14,8 @@ use std::rc::Rc;
 
 /// The Rust, with the session opened last. The Rust refuses nothing, so each
 /// refusal is the documents' table as the oracle has it; those are counted. The
-/// Rust has no cards: they are the oracle's own (`card`).
+/// Rust has no cards and counts no windows: both are the oracle's own (`card`,
+/// `windows_with_largest`).
 #[derive(Default)]
 pub struct Rust {
     live: Live,
@@ -86,24 +87,27 @@ fn decided(spectrum: &[f32], shift: f64) -> Answer {
     Answer::Decided(Tracker::new(shift).has_sync_at(&[], 0))
 }
 
-/// A read as `live` and `plain` give it: the end and eight numbers.
+/// A read as `live` and `plain` give it.
 #[must_use]
-pub fn reading((end, n): (u64, [u64; 8])) -> Answer {
-    let start_quality = f32::from_bits(n[3] as u32);
+pub fn reading((end, n): Reading) -> Answer {
+    let (start, windows) = (n[2], n[3]);
+    let start_quality = f32::from_bits(n[4] as u32);
     let end = match end {
         0 => End::Reported {
-            start: n[2],
+            start,
+            windows,
             start_quality,
             report: Report {
-                rate: f64::from_bits(n[4]),
-                slant: (n[5] != u64::MAX).then(|| f64::from_bits(n[5])),
-                skip: n[6] as i64,
-                quality: f32::from_bits(n[7] as u32),
+                rate: f64::from_bits(n[5]),
+                slant: (n[6] != u64::MAX).then(|| f64::from_bits(n[6])),
+                skip: n[7] as i64,
+                quality: f32::from_bits(n[8] as u32),
             },
         },
         1 => End::Unfound,
         _ => End::CutShort {
-            start: n[2],
+            start,
+            windows,
             start_quality,
         },
     };
@@ -206,9 +210,14 @@ impl Rust {
                 Answer::Count(sync::sync_pulse_columns(spec(mode as usize), n as usize) as u64)
             }),
             Call::Window { width, counts } => self.unless(refusals::window(counts, *width), |_| {
-                let (start, sum) = sync::best_pulse_window(counts, *width as usize);
-                let start = start as u64;
-                Answer::Window { start, sum }
+                let width = *width as usize;
+                let (start, sum) = sync::best_pulse_window(counts, width);
+                let windows = sync::windows_with_largest(counts, width);
+                Answer::Window {
+                    start: start as u64,
+                    sum,
+                    windows: windows as u64,
+                }
             }),
             Call::Quality {
                 mode,

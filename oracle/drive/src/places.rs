@@ -2,6 +2,8 @@
 //! patterns. It is written apart from `card`, which made the vectors, and
 //! serves to read them again.
 
+use crate::plain::Reading;
+
 /// Where the fields behind mark and version begin, and the card's end.
 const PLACES: [usize; 11] = [5, 6, 7, 15, 23, 31, 35, 43, 44, 52, 56];
 
@@ -63,8 +65,8 @@ pub fn write_refusal(fields: [u64; 10], length: u64) -> u64 {
 
 /// The fields of a session's card: its mode and what it reads as.
 #[must_use]
-pub fn of_reading(mode: usize, (end, numbers): (u64, [u64; 8])) -> [u64; 10] {
-    let [taken, evaluations, start, start_quality, rate, slant, skip, quality] = numbers;
+pub fn of_reading(mode: usize, (end, numbers): Reading) -> [u64; 10] {
+    let [taken, evaluations, start, _, start_quality, rate, slant, skip, quality] = numbers;
     let q = match (end, slant) {
         (1.., _) | (_, u64::MAX) => 255,
         _ => ((f64::from_bits(slant) - 30.0) * 2.0) as u64,

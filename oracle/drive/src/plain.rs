@@ -7,6 +7,7 @@ use crate::scene::{is_robot, Sound};
 use crate::search::{taken_at, Evaluation, Search};
 use slowrx::modespec::access::spec;
 use slowrx::sync::access::{self as sync, Found, Scratch};
+use slowrx::sync_start::access::Start;
 
 /// Bytes of the first work memory.
 pub const IMG: usize = 441_000;
@@ -14,6 +15,10 @@ pub const IMG: usize = 441_000;
 pub const VOTES: usize = 144_000;
 /// Longest flag store and flag list.
 pub const MOST_FLAGS: usize = 1 << 24;
+
+/// A read: the end, and taken, evaluations, start, its windows, its quality, rate,
+/// slant, skip and quality as numbers, 0 where the end lacks them.
+pub type Reading = (u64, [u64; 9]);
 
 /// What the Rust makes of a list of flags and samples.
 pub struct Heard {
@@ -23,8 +28,8 @@ pub struct Heard {
     pub sound: Sound,
     /// The evaluations up to the start.
     pub evaluations: Vec<Evaluation>,
-    /// Flags taken when the start was found, position and quality.
-    pub start: Option<(usize, u64, f32)>,
+    /// Flags taken when the start was found, and the start.
+    pub start: Option<(usize, Start)>,
     /// What `find_sync` says, if the list holds the picture.
     pub report: Option<Found>,
 }
@@ -37,14 +42,14 @@ impl Heard {
         let mut start = None;
         for (p, &flag) in sound.flags.iter().enumerate() {
             let found = search.step(flag, &sound.samples[4 * p + 4..4 * p + 8]);
-            if let Some((position, quality)) = found {
-                start = Some((p + 1, position, quality));
+            if let Some(found) = found {
+                start = Some((p + 1, found));
                 break;
             }
         }
         let picture = picture(mode);
-        let report = start.and_then(|(_, position, _)| {
-            let f = (position / 4) as usize;
+        let report = start.and_then(|(_, start)| {
+            let f = (start.position / 4) as usize;
             let flags = sound.flags.get(f..f + picture)?;
             let mut scratch = Scratch::default();
             Some(sync::find_sync(flags, 11_025.0, spec(mode), &mut scratch))
@@ -61,8 +66,8 @@ impl Heard {
     /// f + P, where there is a start.
     #[must_use]
     pub fn full(&self) -> Option<usize> {
-        let (_, position, _) = self.start?;
-        Some((position / 4) as usize + picture(self.mode))
+        let (_, start) = self.start?;
+        Some((start.position / 4) as usize + picture(self.mode))
     }
 }
 
@@ -161,13 +166,27 @@ impl<'a> Session<'a> {
         !matches!(self.phase, Phase::Searching | Phase::Collecting)
     }
 
-    /// End and the eight numbers of a read.
+    /// The windows of its start, 0 before it has one.
+    ///
+    /// # Panics
+    /// If it has a start that was not heard.
+    #[must_use]
+    pub fn windows(&self) -> usize {
+        match self.phase {
+            Phase::Searching | Phase::Unfound => 0,
+            _ => self.heard.start.expect("a start was found").1.windows,
+        }
+    }
+
+    /// End and the nine numbers of a read.
     ///
     /// # Panics
     /// Before the end.
     #[must_use]
-    pub fn reading(&self) -> (u64, [u64; 8]) {
-        let mut numbers = [self.taken as u64, self.evaluations as u64, 0, 0, 0, 0, 0, 0];
+    pub fn reading(&self) -> Reading {
+        let mut numbers = [0; 9];
+        numbers[0] = self.taken as u64;
+        numbers[1] = self.evaluations as u64;
         let end = match self.phase {
             Phase::Reported => 0,
             Phase::Unfound => 1,
@@ -175,16 +194,17 @@ impl<'a> Session<'a> {
             Phase::Searching | Phase::Collecting => unreachable!("read before the end"),
         };
         if self.phase != Phase::Unfound {
-            let (_, position, quality) = self.heard.start.expect("a start was found");
-            numbers[2] = self.anchor + position;
-            numbers[3] = u64::from(quality.to_bits());
+            let (_, start) = self.heard.start.expect("a start was found");
+            numbers[2] = self.anchor + start.position;
+            numbers[3] = self.windows() as u64;
+            numbers[4] = u64::from(start.quality.to_bits());
         }
         if self.phase == Phase::Reported {
             let report = self.heard.report.expect("the list holds the picture");
-            numbers[4] = report.rate.to_bits();
-            numbers[5] = report.slant.map_or(NO_SLANT, f64::to_bits);
-            numbers[6] = report.skip as u64;
-            numbers[7] = u64::from(report.quality.to_bits());
+            numbers[5] = report.rate.to_bits();
+            numbers[6] = report.slant.map_or(NO_SLANT, f64::to_bits);
+            numbers[7] = report.skip as u64;
+            numbers[8] = u64::from(report.quality.to_bits());
         }
         (end, numbers)
     }

@@ -2,6 +2,7 @@
 
 use crate::modes::MODES;
 use crate::record::{bits32, words, Records};
+use crate::ring;
 use crate::rng::Rng;
 use crate::tally::Tally;
 use slowrx::modespec::access::spec;
@@ -84,44 +85,74 @@ pub fn long_list(rng: &mut Rng) -> Vec<u32> {
     counts
 }
 
+/// Adds a pulse to the ring, of which this many windows from `start` on hold
+/// `width` counts.
+pub fn add_top(counts: &mut [u32], height: u32, start: usize, width: usize, windows: usize) {
+    let n = counts.len();
+    for i in start..start + width + windows - 1 {
+        counts[i % n] += height;
+    }
+}
+
+/// Lists and widths by how their windows tie: at each place of the ring, over its
+/// end, behind lower ones that tie, before them, and everywhere.
+fn tied() -> Vec<(Vec<u32>, usize)> {
+    let mut lists = Vec::new();
+    for (n, width) in [
+        (4, 1),
+        (4, 2),
+        (12, 3),
+        (40, 7),
+        (COLUMNS, 8),
+        (COLUMNS, 42),
+    ] {
+        for windows in [1, 2, 3, 9, 10, 11, 100] {
+            if width + windows > n {
+                continue;
+            }
+            let mut starts = vec![0, 1, n - width, n - windows, n - windows / 2 - 1, n - 1];
+            starts.sort_unstable();
+            starts.dedup();
+            for start in starts {
+                let mut counts = vec![0; n];
+                add_top(&mut counts, 5, start, width, windows);
+                lists.push((counts, width));
+            }
+        }
+    }
+    for (width, windows) in [
+        (1, [2, 3, 1]),
+        (3, [4, 1, 2]),
+        (8, [9, 10, 11]),
+        (8, [1, 2, 30]),
+    ] {
+        for heights in [[3, 4, 5], [5, 3, 4], [3, 5, 4], [5, 3, 5]] {
+            let mut counts = vec![1; 120];
+            for (i, (height, windows)) in heights.into_iter().zip(windows).enumerate() {
+                add_top(&mut counts, height, 40 * i, width, windows);
+            }
+            lists.push((counts, width));
+        }
+    }
+    for width in [1, COLUMNS, LONGEST - 1] {
+        let mut counts = vec![7; LONGEST];
+        lists.push((counts.clone(), width));
+        counts[LONGEST - 1] += 1;
+        lists.push((counts, width));
+    }
+    lists
+}
+
 fn windows(records: &mut Records, rng: &mut Rng) -> Result<(), String> {
-    let mut tally = Tally::new(
-        "pulse: window",
-        &[
-            "one count",
-            "65,536 counts",
-            "width n",
-            "width 1",
-            "all equal",
-            "tie, the first wins",
-            "best window wraps",
-            "best window at 0",
-            "best window at n - 1",
-            "sum above 2^32",
-        ],
-    );
+    let mut tally = Tally::new("pulse: window", &[]);
+    ring::announce_list(&mut tally, "");
     let mut put = |counts: &[u32], width: usize| {
-        let n = counts.len();
         let (start, sum) = sync::best_pulse_window(counts, width);
+        let number = sync::windows_with_largest(counts, width);
         let (form, bytes) = payload(counts);
-        records.long(0, [width as u64, 0, form], [start as u64, sum, 0], &bytes);
-        tally.note("one count", n == 1);
-        tally.note("65,536 counts", n == LONGEST);
-        tally.note("width n", width == n && n > 1);
-        tally.note("width 1", width == 1);
-        let equal = counts.iter().all(|&c| c == counts[0]);
-        tally.note("all equal", equal && n > 1);
-        let sums = |s: usize| {
-            (0..width)
-                .map(|i| u64::from(counts[(s + i) % n]))
-                .sum::<u64>()
-        };
-        let ties = n <= 64 && !equal && (start + 1..n).any(|s| sums(s) == sum);
-        tally.note("tie, the first wins", ties);
-        tally.note("best window wraps", start + width > n);
-        tally.note("best window at 0", start == 0 && !equal);
-        tally.note("best window at n - 1", start + 1 == n && n > 1);
-        tally.note("sum above 2^32", sum >> 32 > 0);
+        let answer = [start as u64, sum, number as u64];
+        records.long(0, [width as u64, 0, form], answer, &bytes);
+        ring::note_list(&mut tally, "", counts, width);
     };
     put(&[5, 1, 1, 5], 2);
     put(&[7, 7, 7, 7], 2);
@@ -151,6 +182,9 @@ fn windows(records: &mut Records, rng: &mut Rng) -> Result<(), String> {
     }
     put(&vec![u32::MAX; LONGEST], LONGEST);
     put(&vec![0; LONGEST], 3);
+    for (counts, width) in tied() {
+        put(&counts, width);
+    }
     tally.report()
 }
 

@@ -1,15 +1,17 @@
-//! A recording that the Rust makes: every call, each end of a session,
-//! refusals, several anchors and cuts. The same seed gives the same bytes.
+//! Recordings that the Rust makes: in version 2 every call of document 01, each
+//! end of a session, refusals, several anchors and cuts; in version 1 only the
+//! calls whose answers have fewer fields there. The same seed gives the same bytes.
 
 use crate::dsp::{shifts, spectrum};
 use crate::find_sync::RATES;
 use crate::machine::Rust;
 use crate::modes::MODES;
 use crate::plain::{shortest, Heard};
-use crate::pulse::{list, COLUMNS};
+use crate::pulse::{add_top, list, COLUMNS};
 use crate::rng::Rng;
-use crate::scene::{Scene, Sound};
+use crate::scene::{Scene, Sound, RATE};
 use crate::search::taken_at;
+use crate::shaped;
 use crate::train::{set, Train};
 use recording::{record, Call, Entry, Length, Recording, Version};
 use slowrx::modespec::access::spec;
@@ -20,20 +22,22 @@ const FAR: u64 = 1 << 62;
 
 /// The text of the recording.
 #[must_use]
-pub fn text(seed: u64) -> String {
+pub fn text(seed: u64, version: Version) -> String {
     let mut rng = Rng::new(seed);
     let mut calls = Vec::new();
-    folds(&mut calls, &mut rng);
-    sounds(&mut calls, &mut rng);
-    finds(&mut calls, &mut rng);
-    sessions(&mut calls, &mut rng);
+    if version == Version::Two {
+        folds(&mut calls, &mut rng);
+        sounds(&mut calls, &mut rng);
+        finds(&mut calls, &mut rng);
+        sessions(&mut calls, &mut rng);
+    }
+    ties(&mut calls, &mut rng);
     let entry = |(line, call)| Entry {
         line,
         call,
         answer: None,
     };
     let entries = calls.into_iter().enumerate().map(entry).collect();
-    let version = Version::One;
     record(&Recording { version, entries }, &mut Rust::default()).text
 }
 
@@ -360,6 +364,37 @@ fn unfound(calls: &mut Vec<Call>, rng: &mut Rng) {
             capacity,
         };
         fed.calls(calls, rng);
+    }
+}
+
+/// Windows and sessions of which several windows have the largest sum.
+fn ties(calls: &mut Vec<Call>, rng: &mut Rng) {
+    let top = |n: usize, start: usize, width: usize, windows: usize| {
+        let mut counts = vec![1; n];
+        add_top(&mut counts, 4, start, width, windows);
+        window(width, counts)
+    };
+    calls.extend([top(9, 3, 3, 1), top(9, 8, 3, 2), top(30, 25, 7, 9)]);
+    calls.extend([top(COLUMNS, 40, 8, 10), top(COLUMNS, 690, 42, 100)]);
+    // a larger sum behind two that tie, then windows that all tie
+    calls.push(window(2, vec![4, 4, 4, 0, 5, 5, 0]));
+    calls.extend([window(5, vec![3, 1, 4, 1, 5]), window(700, vec![7; 65_536])]);
+    for mode in [8, 13] {
+        let mut sound = shaped::three_counts(rng, mode);
+        let capacity = shortest(mode);
+        sound.silence(capacity + 64);
+        let fed = Fed {
+            mode,
+            anchor: rng.below(FAR),
+            heard: Heard::new(mode, sound),
+            capacity,
+        };
+        fed.calls(calls, rng);
+        let pulse = (spec(mode).sync_seconds * RATE / 4.0) as usize;
+        let mut scene = Scene::clean(mode, 3 * taken_at(mode, 0) / 2, 0);
+        scene.longer = 2 * pulse;
+        scene.gap = (40, usize::MAX);
+        picture(scene, rng.below(FAR), 2, rng).calls(calls, rng);
     }
 }
 

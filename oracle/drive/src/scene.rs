@@ -36,6 +36,12 @@ impl Sound {
         }
     }
 
+    /// Adds silence up to this many flags.
+    pub fn silence(&mut self, flags: usize) {
+        self.flags.resize(flags, false);
+        self.samples.resize(4 * flags + 4, 0.0);
+    }
+
     /// The samples known when this many flags are taken.
     #[must_use]
     pub fn known(&self, taken: usize) -> &[f32] {
@@ -99,6 +105,9 @@ pub struct Scene {
     pub flags: usize,
     /// The sender's clock beside ours.
     pub slower: f64,
+    /// Flags by which each pulse is longer than the mode's, so that several
+    /// windows of a fold have the largest sum.
+    pub longer: usize,
     /// Of a thousand lines, how many have no pulse.
     pub missing: u64,
     /// Lines at the start whose pulse is only the beginning of one.
@@ -127,6 +136,7 @@ impl Scene {
             lead_in,
             flags,
             slower: 0.0,
+            longer: 0,
             missing: 0,
             weak: 0,
             broken: 0,
@@ -154,10 +164,11 @@ impl Scene {
         let mut sound = Sound::silent(self.flags);
         for line in 0..train.lines {
             let (from, to) = train.pulse(row, line);
+            let to = to + self.longer;
             if from >= self.flags {
                 break;
             }
-            let gap = line >= self.gap.0 && line < self.gap.0 + self.gap.1;
+            let gap = line >= self.gap.0 && line - self.gap.0 < self.gap.1;
             if gap || rng.permille(self.missing) {
                 continue;
             }

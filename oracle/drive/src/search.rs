@@ -106,12 +106,21 @@ pub fn evaluate(mode: usize, sound: &Sound, j: usize, streak: u32) -> Evaluation
     }
 }
 
-/// Start, streak and quality as a record has them.
+/// The fold of evaluation `j`.
+#[must_use]
+pub fn fold(mode: usize, sound: &Sound, j: usize) -> Vec<u32> {
+    placed(mode, sound, j, kept(j), 0).counts()
+}
+
+/// Start, streak, and quality with the start's windows, as a record has them.
 #[must_use]
 pub fn answer(evaluation: Evaluation) -> [u64; 3] {
-    let start = evaluation.start.map_or(NOWHERE, |(position, _)| position);
+    let found = evaluation.start;
+    let position = found.map_or(NOWHERE, |start| start.position);
+    let windows = found.map_or(0, |start| start.windows as u64);
     let quality = u64::from(evaluation.quality.to_bits());
-    [start, u64::from(evaluation.streak), quality]
+    let streak = u64::from(evaluation.streak);
+    [position, streak, quality | windows << 32]
 }
 
 /// Number of runs and the runs.

@@ -5,13 +5,15 @@ use crate::card::{Card, LENGTH, NONE};
 use crate::modes::MODES;
 use crate::plain::{shortest, unsound, Feed, Heard, Phase, Session, IMG, VOTES};
 use crate::record::{words, Records};
+use crate::ring;
 use crate::rng::Rng;
 use crate::scene::{is_robot, Scene, Sound};
-use crate::search::{flag_words, kept, piece_words, taken_at};
+use crate::search::{flag_words, fold, kept, piece_words, taken_at};
+use crate::shaped;
 use crate::tally::Tally;
 use slowrx::modespec::access::spec;
 use slowrx::sync::access as sync;
-use slowrx::sync_start::access::Placed;
+use slowrx::sync_start::access::{self as sync_start, Placed};
 
 /// Largest anchor.
 const FAR: u64 = 1 << 62;
@@ -145,7 +147,7 @@ impl Driver {
         tally.note("F exactly f + P: reported", at_end);
         let short = full == Some(f + 1) && phase == Phase::CutShort;
         tally.note("F exactly f + P - 1: cut short", short);
-        let found = session.heard.start.is_some_and(|(taken, _, _)| taken == f);
+        let found = session.heard.start.is_some_and(|(taken, _)| taken == f);
         tally.note(
             "start found exactly at F: cut short",
             found && phase == Phase::CutShort,
@@ -165,8 +167,17 @@ impl Driver {
         );
         let leans = report.is_some_and(|r| r.rate != 11_025.0);
         tally.note("report with another rate", leans);
+        let ends = [(Phase::Reported, ENDS[0]), (Phase::CutShort, ENDS[1])];
+        if let Some((_, end)) = ends.into_iter().find(|(end, _)| *end == phase) {
+            let (sound, j) = (&session.heard.sound, session.evaluations - 1);
+            ring::note_start(tally, end, mode, &fold(mode, sound, j));
+            ring::note_streak(tally, end, mode, sound, j);
+        }
     }
 }
+
+/// What stands before the classes of starts, by the session's end.
+const ENDS: [&str; 2] = ["reported: ", "cut short: "];
 
 /// How a list is cut into pieces.
 #[derive(Clone, Copy, PartialEq)]
@@ -416,6 +427,9 @@ pub fn vectors() -> Result<Records, String> {
     for mode in 0..MODES {
         tally.announce(format!("reported in mode {mode}"));
     }
+    for end in ENDS {
+        ring::announce_start(&mut tally, end);
+    }
     let mut driver = Driver {
         records: Records::default(),
         tally,
@@ -430,6 +444,9 @@ pub fn vectors() -> Result<Records, String> {
     }
     for mode in [3, 4] {
         later_tones(&mut driver, &mut rng, mode);
+    }
+    for mode in [8, 7, 13, 9] {
+        flat_tops(&mut driver, &mut rng, mode);
     }
     driver.tally.report()?;
     Ok(driver.records)
@@ -470,6 +487,34 @@ fn pictures(driver: &mut Driver, rng: &mut Rng, mode: usize) {
     twice(driver, rng, &heard, full - 1);
 }
 
+/// Starts with several windows of the largest sum: a list made for it, reported,
+/// and a picture of longer pulses, reported and cut short. Its lead-in is the
+/// first from which the three evaluations of the streak have three counts.
+fn flat_tops(driver: &mut Driver, rng: &mut Rng, mode: usize) {
+    let capacity = shortest(mode) + rng.index(2_000);
+    let mut sound = shaped::three_counts(rng, mode);
+    sound.silence(capacity + 500);
+    twice(driver, rng, &Heard::new(mode, sound), capacity);
+    let row = spec(mode);
+    let [line, pulse] = [row.line_seconds, row.sync_seconds].map(|s| (s * 2_756.25) as usize);
+    let lead_ins = (taken_at(mode, 0) + 3 * line + rng.index(line)..).step_by(5);
+    let mut pictures = lead_ins.map(|lead_in| {
+        let mut scene = Scene::clean(mode, lead_in, shortest(mode) + lead_in);
+        scene.longer = 2 * pulse;
+        scene.gap = (2 * sync_start::window_lines(row), usize::MAX);
+        Heard::new(mode, scene.sound(rng))
+    });
+    let heard = pictures.find(|heard| {
+        let j = heard.evaluations.len() - 1;
+        heard.start.is_some() && ring::has_three_counts(mode, &heard.sound, j)
+    });
+    let heard = heard.expect("some lead-in");
+    let full = heard.full().expect("there is a start");
+    assert!(full > shortest(mode));
+    twice(driver, rng, &heard, full);
+    twice(driver, rng, &heard, full - 1);
+}
+
 /// Silence or noise up to F, and a start that is found exactly at F.
 fn long_searches(driver: &mut Driver, rng: &mut Rng, mode: usize) {
     let capacity = shortest(mode) + rng.index(700);
@@ -481,7 +526,7 @@ fn long_searches(driver: &mut Driver, rng: &mut Rng, mode: usize) {
     let late = shortest(mode) + rng.index(1_000);
     let flags = late + 2 * taken_at(mode, 0);
     let heard = Heard::new(mode, Scene::clean(mode, late, flags).sound(rng));
-    let (at, _, _) = heard.start.expect("a clean picture is found");
+    let (at, _) = heard.start.expect("a clean picture is found");
     assert!(at >= shortest(mode));
     twice(driver, rng, &heard, at);
     twice(driver, rng, &heard, at - 1);
@@ -495,14 +540,14 @@ fn later_tones(driver: &mut Driver, rng: &mut Rng, mode: usize) {
     scene.odd_first = true;
     scene.tone_lines = 10..40;
     let heard = Heard::new(mode, scene.sound(rng));
-    let (taken, position, _) = heard.start.expect("a clean picture is found");
+    let (taken, found) = heard.start.expect("a clean picture is found");
     let j = (taken - taken_at(mode, 0)) / 64;
     let (flags, all) = (&heard.sound.flags[..taken], &heard.sound.samples);
     let other = Placed::new(spec(mode), flags, all, j, kept(j), 2).evaluate();
     let name = "later tones, heard at once, would tell another parity";
     driver
         .tally
-        .note(name, other.is_some_and(|(start, _)| start != position));
+        .note(name, other.is_some_and(|o| o.position != found.position));
     let capacity = shortest(mode) + 8_000;
     run(driver, rng, &heard, 4, capacity, Cut::AtOnce);
     run(driver, rng, &heard, 1 << 40, capacity, Cut::Blocks(4_096));

@@ -214,6 +214,23 @@ pub fn hanging(rng: &mut Rng, mode: usize) -> Sound {
     sound
 }
 
+/// A list whose start is found at evaluation 2, and each of whose evaluations has
+/// another count of windows with the largest sum. The pulses are longer than the
+/// mode's. Line 0 lacks some flags at both ends of its pulse: at evaluation 1 the
+/// first of them are behind the window, at evaluation 2 the last ones too.
+pub fn three_counts(rng: &mut Rng, mode: usize) -> Sound {
+    let line = spec(mode).line_seconds * RATE / 4.0;
+    let length = (line as usize * 2 / 5).min(120);
+    let mut sound = Sound::silent(taken_at(mode, 2));
+    for y in 0..sync_start::window_lines(spec(mode)) + 2 {
+        let from = (y as f64 * line) as usize;
+        set(&mut sound.flags, from, from + length);
+    }
+    sound.flags[..6 + rng.index(3)].fill(false);
+    sound.flags[length - 6 - rng.index(3)..length].fill(false);
+    sound
+}
+
 /// A wide pulse's line with about half its columns.
 fn half_lines(driver: &mut Driver, rng: &mut Rng, mode: usize) {
     for (j, y) in [(0, 0), (2, 1), (5, 0)] {

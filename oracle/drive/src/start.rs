@@ -2,6 +2,7 @@
 
 use crate::modes::MODES;
 use crate::record::Records;
+use crate::ring;
 use crate::rng::Rng;
 use crate::scene::{is_robot, Scene, Sound, RATE};
 use crate::search::{
@@ -13,7 +14,7 @@ use slowrx::modespec::access::spec;
 use slowrx::sync::access::{best_pulse_window, sync_pulse_columns};
 use slowrx::sync_start::access::{self as sync_start, Placed, Start};
 
-const CLASSES: [&str; 26] = [
+const CLASSES: [&str; 27] = [
     "search without a start",
     "search of silence",
     "failed locate, streak kept, start found later",
@@ -40,6 +41,7 @@ const CLASSES: [&str; 26] = [
     "lead-in of more than a window",
     "weak first lines",
     "lower end of a line's search held at 0, driven directly",
+    "start whose first and last window have the largest sum",
 ];
 
 /// What puts the records together.
@@ -58,6 +60,7 @@ pub fn vectors() -> Result<Records, String> {
     for class in shaped::CLASSES {
         tally.announce(class.to_string());
     }
+    ring::announce_start(&mut tally, "");
     for mode in 0..MODES {
         tally.announce(format!("start in mode {mode}"));
     }
@@ -71,6 +74,10 @@ pub fn vectors() -> Result<Records, String> {
         scenes(&mut driver, &mut rng, mode);
         singles(&mut driver, &mut rng, mode);
         shaped::evaluations(&mut driver, &mut rng, mode);
+    }
+    let mut rng = Rng::new(16);
+    for mode in 0..MODES {
+        flat_tops(&mut driver, &mut rng, mode);
     }
     driver.tally.report()?;
     Ok(driver.records)
@@ -131,6 +138,9 @@ impl Driver {
         }
         let found = evaluations.last().is_some_and(|e| e.start.is_some());
         let tally = &mut self.tally;
+        if found {
+            ring::note_streak(tally, "", mode, sound, evaluations.len() - 1);
+        }
         tally.note("search without a start", !found);
         tally.note("search of silence", !sound.flags.contains(&true));
         tally.note(
@@ -147,13 +157,17 @@ impl Driver {
         tally.note("evaluation with quality exactly 0.6", sixth);
         let below = made.quality < 0.6 && made.quality > 0.55;
         tally.note("evaluation just below 0.6", below);
-        let Some((position, _)) = made.start else {
+        let Some(Start { position, .. }) = made.start else {
             return;
         };
         let row = spec(mode);
         let placed = placed(mode, sound, j, kept(j), 0);
         let width = sync_pulse_columns(row, COLUMNS);
-        let (column, _) = best_pulse_window(&placed.counts(), width);
+        let counts = placed.counts();
+        ring::note_start(tally, "", mode, &counts);
+        let name = "start whose first and last window have the largest sum";
+        tally.note(name, ring::ties_over_the_end(&counts, width));
+        let (column, _) = best_pulse_window(&counts, width);
         let wide = width >= sync_start::WIDE;
         let line = placed
             .first_pulsed_line(column, width)
@@ -290,6 +304,27 @@ fn scenes(driver: &mut Driver, rng: &mut Rng, mode: usize) {
         let mut scene = Scene::clean(mode, line * 5, w + line * 6);
         scene.tones = 0.0;
         put(driver, rng, scene);
+    }
+}
+
+/// Pulses that are longer than the mode's, as a carrier gives them: several
+/// windows have the largest sum.
+fn flat_tops(driver: &mut Driver, rng: &mut Rng, mode: usize) {
+    let row = spec(mode);
+    let flags = |seconds: f64| (seconds * RATE / 4.0) as usize;
+    let (line, pulse) = (flags(row.line_seconds), flags(row.sync_seconds));
+    let lengths = [1 + pulse / 8, pulse / 2, pulse, 2 * pulse, 3 * pulse];
+    let anywhere = lengths.map(|longer| (rng.index(line), longer));
+    // the pulse lies across the window's start at evaluation 2
+    let across = ((128 + line - 3 * pulse / 2) % line, 2 * pulse);
+    for (lead_in, longer) in anywhere.into_iter().chain([across]) {
+        let mut scene = Scene::clean(mode, lead_in, taken_at(mode, 8));
+        scene.longer = longer;
+        scene.tones = 0.0;
+        driver.search(mode, &scene.sound(rng));
+    }
+    for _ in 0..2 {
+        driver.search(mode, &shaped::three_counts(rng, mode));
     }
 }
 

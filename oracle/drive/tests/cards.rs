@@ -271,6 +271,7 @@ fn a_reading_as_a_card() {
         0x8765_4321,
         0x105,
         0x0102_0304_0506_0708,
+        700,
         0x3f40_0000,
         0x40c5_8880_0000_0000,
         90.0_f64.to_bits(),
@@ -280,13 +281,13 @@ fn a_reading_as_a_card() {
     assert_eq!(Card::of(9, (0, numbers)), reported());
     for (slant, q) in [(30.0, 0), (30.5, 1), (149.5, 239)] {
         let mut other = numbers;
-        other[5] = f64::to_bits(slant);
+        other[6] = f64::to_bits(slant);
         assert_eq!(Card::of(9, (0, other)).slant, q);
     }
     let mut none = numbers;
-    none[5] = u64::MAX;
+    none[6] = u64::MAX;
     assert_eq!(Card::of(9, (0, none)).slant, 255);
-    none[4..].fill(0);
+    none[5..].fill(0);
     assert_eq!(Card::of(9, (2, none)), cut_short());
     none[2..].fill(0);
     assert_eq!(Card::of(9, (1, none)), unfound());

@@ -1,7 +1,10 @@
 //! The known answers of document 01, asked of the Rust itself, and the forms
 //! in which lists are written.
 
+use drive::pulse::list;
 use drive::record::runs;
+use drive::ring;
+use drive::rng::Rng;
 use drive::scene::pieces;
 use slowrx::modespec::access::spec;
 use slowrx::sync::access as sync;
@@ -45,6 +48,41 @@ fn no_flags() {
 fn ring() {
     assert_eq!(sync::best_pulse_window(&[5, 1, 1, 5], 2), (3, 10));
     assert_eq!(sync::best_pulse_window(&[4, 4, 4, 4], 2).0, 0);
+}
+
+#[test]
+fn windows_that_tie() {
+    let answers: [(&[u32], usize, usize); 8] = [
+        (&[5, 1, 1, 5], 2, 1),
+        (&[4, 4, 4, 4], 2, 4),
+        (&[9], 1, 1),
+        (&[3, 1, 4, 1, 5], 5, 5),
+        // a larger sum behind three that tie, with one window and with two
+        (&[2, 2, 2, 2, 0, 3, 3, 0], 2, 1),
+        (&[2, 2, 2, 2, 0, 3, 3, 3], 2, 2),
+        // the last window and the first
+        (&[6, 6, 0, 0, 6], 2, 2),
+        // the last two
+        (&[6, 0, 0, 0, 6, 6], 2, 2),
+    ];
+    for (counts, width, windows) in answers {
+        assert_eq!(sync::windows_with_largest(counts, width), windows);
+        assert_eq!(ring::windows(counts, width), windows);
+    }
+}
+
+#[test]
+fn two_ways_of_counting_agree() {
+    let mut rng = Rng::new(21);
+    let mut several = 0;
+    for _ in 0..3_000 {
+        let n = 1 + rng.index(60);
+        let (counts, width) = (list(&mut rng, n), 1 + rng.index(n));
+        let windows = sync::windows_with_largest(&counts, width);
+        assert_eq!(ring::windows(&counts, width), windows);
+        several += usize::from(windows > 1 && windows < n);
+    }
+    assert!(several > 500);
 }
 
 #[test]

@@ -44,6 +44,25 @@ pub mod access {
         super::best_pulse_window(counts, width)
     }
 
+    /// How many starts of the ring reach the largest sum: each window is summed by
+    /// itself. The Rust has no such count; its own start and sum have to be the
+    /// ones that come out here.
+    pub fn windows_with_largest(counts: &[u32], width: usize) -> usize {
+        let ring = [counts, counts].concat();
+        let mut sums = Vec::new();
+        for start in 0..counts.len() {
+            let mut sum = 0;
+            for &count in &ring[start..start + width] {
+                sum += u64::from(count);
+            }
+            sums.push(sum);
+        }
+        let (start, largest) = super::best_pulse_window(counts, width);
+        assert_eq!(sums.iter().max(), Some(&largest), "the Rust's sum");
+        assert_eq!(sums.iter().position(|&sum| sum == largest), Some(start));
+        sums.iter().filter(|&&sum| sum == largest).count()
+    }
+
     pub fn sync_quality(counts: &[u32], spec: ModeSpec, lines: usize) -> f32 {
         super::sync_quality(counts, spec, lines)
     }

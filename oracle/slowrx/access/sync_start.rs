@@ -16,11 +16,36 @@ pub mod access {
 
     pub const WIDE: usize = WIDE_PULSE_COLUMNS;
 
-    /// A start: position and quality.
-    pub type Start = (u64, f32);
+    /// A start.
+    #[derive(Clone, Copy, Debug, PartialEq)]
+    pub struct Start {
+        pub position: u64,
+        pub quality: f32,
+        /// How many windows have the largest sum, in the fold of the evaluation
+        /// that found it. The Rust has no such count.
+        pub windows: usize,
+    }
 
-    fn plain(start: SyncStart) -> Start {
-        (start.start_sample, start.quality)
+    /// The fold of the window from flag `first` on, as `evaluate` makes it.
+    fn fold(detector: &SyncStartDetector, first: usize) -> Vec<u32> {
+        let lines = 0..detector.window_lines;
+        let hit = |y: usize, x: usize| {
+            let position = y as f64 + x as f64 / X_ACC_BINS as f64;
+            u32::from(detector.probe_at(first, position))
+        };
+        let column = |x| lines.clone().map(|y| hit(y, x)).sum();
+        (0..X_ACC_BINS).map(column).collect()
+    }
+
+    /// A start that the window from flag `first` on gave.
+    fn counted(detector: &SyncStartDetector, first: usize, start: SyncStart) -> Start {
+        let width = sync_pulse_columns(detector.spec, X_ACC_BINS);
+        let counts = fold(detector, first);
+        Start {
+            position: start.start_sample,
+            quality: start.quality,
+            windows: crate::sync::access::windows_with_largest(&counts, width),
+        }
     }
 
     /// The detector. Its flags come from the injected spectrum.
@@ -35,9 +60,12 @@ pub mod access {
             self.0.process(samples, total_samples_consumed);
         }
 
-        /// The start found, if any. It stays.
+        /// The start found, if any. It stays, and so do the flags that it was
+        /// found with.
         pub fn start(&self) -> Option<Start> {
-            self.0.pending.map(plain)
+            let first = || self.0.probes.len() - self.0.window_probes();
+            let pending = self.0.pending;
+            pending.map(|start| counted(&self.0, first(), start))
         }
 
         /// Whether the last flag was followed by an evaluation.
@@ -83,7 +111,8 @@ pub mod access {
         }
 
         pub fn evaluate(&mut self) -> Option<Start> {
-            self.detector.evaluate(self.first).map(plain)
+            let start = self.detector.evaluate(self.first)?;
+            Some(counted(&self.detector, self.first, start))
         }
 
         pub fn last_quality(&self) -> f32 {
@@ -94,15 +123,9 @@ pub mod access {
             self.detector.streak
         }
 
-        /// The fold of the window, as `evaluate` makes it.
+        /// The fold of the window.
         pub fn counts(&self) -> Vec<u32> {
-            let lines = 0..self.detector.window_lines;
-            let hit = |y: usize, x: usize| {
-                let position = y as f64 + x as f64 / X_ACC_BINS as f64;
-                u32::from(self.detector.probe_at(self.first, position))
-            };
-            let column = |x| lines.clone().map(|y| hit(y, x)).sum();
-            (0..X_ACC_BINS).map(column).collect()
+            fold(&self.detector, self.first)
         }
 
         pub fn first_pulsed_line(&self, column: usize, width: usize) -> Option<usize> {

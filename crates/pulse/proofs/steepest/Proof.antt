@@ -9,13 +9,13 @@ use Rattle.limits.proofs.Signed.{given-as}
 use Rattle.pulse.specs.Sums.{FirstLargest}
 use Rattle.pulse.specs.Edge.{fallAt}
 use Rattle.pulse.specs.Sliding.{differenceAt, notNegative}
-use Rattle.pulse.proofs.Largest.{first-one, better-more}
+use Rattle.pulse.proofs.Largest.{first-one, steeper-more}
 use Rattle.pulse.proofs.Sliding.{difference-falls}
 use Rattle.pulse.proofs.steepest.Statement.{statement}
 use Rattle.pulse.proofs.steepest.Tie as tie
 
 abbrev Inv-loop : tie.InvT-loop
-Inv-loop counts difference₀ best₀ x₀ difference best x = (1 ≤ x) × (x ≤ 692) × (toZ w64 difference ≡ differenceAt counts (x - 1)) × FirstLargest (fallAt counts) x (best .start) (best .sum)
+Inv-loop counts difference₀ best₀ x₀ difference best x = (1 ≤ x) × (x ≤ 692) × (toZ w64 difference ≡ differenceAt counts (x - 1)) × FirstLargest (fallAt counts) x (best .at) (best .fall)
 
 abbrev μ-loop : tie.MeasureT-loop
 μ-loop counts difference₀ best₀ x₀ difference best x = 692 - x
@@ -39,8 +39,8 @@ next-difference-requires c κs = (omega arith, omega arith, c .before .loop .inv
 clipped-requires-2 : tie.Need-clipped-requires-2 Inv-loop μ-loop
 clipped-requires-2 c κs = tt
 
-better-requires : tie.Need-better-requires Inv-loop μ-loop
-better-requires c κs = tt
+steeper-requires : tie.Need-steeper-requires Inv-loop μ-loop
+steeper-requires c κs = tt
 
 add-x : tie.Need-add-x Inv-loop μ-loop
 add-x c = omega arith
@@ -57,7 +57,7 @@ loop-again c =
     let i : x ≡ x + 1 - 1 = omega arith in
     let e = given-as (n .next-difference .ok) (n .next-difference .ensures) in
     let f = c .before .clipped2 .ensures ∙ ap notNegative e ∙ difference-falls counts x in
-    (omega arith, omega arith, e ∙ ap (differenceAt counts) i, rw (c .better .ensures) (better-more (fallAt counts) x _ (l .loop .best) f (l .loop .inv .3)))
+    (omega arith, omega arith, e ∙ ap (differenceAt counts) i, rw (c .steeper .ensures) (steeper-more (fallAt counts) x _ (l .loop .best) f (l .loop .inv .3)))
 
 returns : tie.Need-returns Inv-loop μ-loop
 returns c = let l = c .before in let e : l .loop .x ≡ 692 = omega arith in rw e at (l .loop .inv .3)
@@ -73,7 +73,7 @@ steepest-spec =
     loop-holds
     next-difference-requires
     clipped-requires-2
-    better-requires
+    steeper-requires
     add-x
     loop-less
     loop-again

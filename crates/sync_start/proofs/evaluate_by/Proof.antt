@@ -8,7 +8,7 @@ use Rattle.modespec.specs.Sizes.{windowLines}
 use Rattle.sync_start.specs.Evaluate.{countsOf}
 use Rattle.window_fold.proofs.Folding.{fold-length}
 use Rattle.columns.proofs.Lists.{tail-is}
-use Rattle.sync_start.proofs.Column.{sized-as}
+use Rattle.sync_start.proofs.Sizes.{sized-as}
 use Rattle.sync_start.proofs.Judging.{counts-are, weak, short, missed, located}
 use borrow.Author.Needs.{needs}
 use Rattle.sync_start.proofs.evaluate_by.Statement.{statement}
@@ -125,7 +125,7 @@ returns-4 c =
     let f = q .before .before in
     let w = f .before .before .before in
     let g = w .before .before .before .before .args in
-    c .found .ensures ∙ located (g .mode) (g .j) (g .flags .now) _ _ _ (w .before .for-mode .ensures) (w .window-lines .ensures) _ _ _ (counted f) (q .quality .ensures) (l .locate .result) (e .before .if1 .left) (e .if2 .left) (l .locate .ensures) _ (c .before .before .start .given .1)
+    c .found .ensures ∙ located (g .mode) (g .j) (g .flags .now) _ _ _ (w .before .for-mode .ensures) (w .window-lines .ensures) _ _ _ (counted f) (q .quality .ensures) (l .locate .result) (e .before .if1 .left) (e .if2 .left) (l .locate .ensures) _ _ (c .before .before .start .given .1)
 
 pub evaluate-by-spec : {M : Type 1} → statement M
 evaluate-by-spec =

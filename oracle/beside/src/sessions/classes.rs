@@ -4,6 +4,7 @@ use super::FAR;
 use crate::run::Run;
 use drive::modes::MODES;
 use drive::plain::{shortest, Heard, Phase, Session};
+use drive::ring;
 use drive::scene::{is_robot, RATE};
 use drive::search::{kept, placed, taken_at, COLUMNS};
 use drive::tally::Tally;
@@ -50,8 +51,12 @@ pub fn tally() -> Tally {
             "narrow start that depends on one flag",
             "wide start that depends on one flag or two",
             "later tones, heard at once, would tell another parity",
+            "a piece after which the record has a start with several windows",
+            "reported with several windows of the largest sum",
+            "cut short with several windows of the largest sum",
         ],
     );
+    ring::announce_start(&mut tally, "");
     for name in ["Robot 24", "Robot 36"] {
         tally.announce(format!("odd first line, {name}"));
         tally.announce(format!("even first line, {name}"));
@@ -75,6 +80,9 @@ pub fn note_piece(run: &mut Run, session: &Session, m: usize, took: usize) {
     tally.note("the end drops the rest of a piece", took < m);
     let exact = took == m && ended;
     tally.note("a piece that ends the session with its last flag", exact);
+    let several = session.phase == Phase::Collecting && session.windows() > 1;
+    let name = "a piece after which the record has a start with several windows";
+    tally.note(name, several);
 }
 
 /// A session that has ended.
@@ -114,9 +122,14 @@ fn note_store(tally: &mut Tally, session: &Session) {
     tally.note(name, reported && full == Some(f));
     let name = "F exactly f + P - 1: cut short";
     tally.note(name, cut_short && full == Some(f + 1));
-    let found = session.heard.start.is_some_and(|(taken, _, _)| taken == f);
+    let found = session.heard.start.is_some_and(|(taken, _)| taken == f);
     let name = "start found exactly at F: cut short";
     tally.note(name, cut_short && found);
+    let several = session.windows() > 1;
+    let name = "reported with several windows of the largest sum";
+    tally.note(name, reported && several);
+    let name = "cut short with several windows of the largest sum";
+    tally.note(name, cut_short && several);
 }
 
 /// The streaks before the start.
@@ -134,18 +147,20 @@ fn note_search(tally: &mut Tally, heard: &Heard) {
 
 /// Where the start was found.
 fn note_start(tally: &mut Tally, heard: &Heard) {
-    let Some((taken, position, _)) = heard.start else {
+    let Some((taken, found)) = heard.start else {
         return;
     };
     let mode = heard.mode;
     let j = (taken - taken_at(mode, 0)) / 64;
     let placed = placed(mode, &heard.sound, j, kept(j), 0);
-    let width = sync_pulse_columns(spec(mode), COLUMNS);
-    let (column, _) = best_pulse_window(&placed.counts(), width);
+    let (counts, width) = (placed.counts(), sync_pulse_columns(spec(mode), COLUMNS));
+    ring::note_start(tally, "", mode, &counts);
+    ring::note_streak(tally, "", mode, &heard.sound, j);
+    let (column, _) = best_pulse_window(&counts, width);
     let Some(line) = placed.first_pulsed_line(column, width) else {
         return;
     };
-    tally.note("start held at 0", position == 0);
+    tally.note("start held at 0", found.position == 0);
     let kind = if width >= WIDE {
         "wide pulse"
     } else {
@@ -178,13 +193,13 @@ pub fn note_hanging(run: &mut Run, heard: &Heard) {
 /// Whether samples that come after the start was found would tell another
 /// parity.
 pub fn note_later_tones(run: &mut Run, heard: &Heard) {
-    let Some((taken, position, _)) = heard.start else {
+    let Some((taken, found)) = heard.start else {
         return;
     };
     let j = (taken - taken_at(heard.mode, 0)) / 64;
     let (flags, all) = (&heard.sound.flags[..taken], &heard.sound.samples);
     let other = Placed::new(spec(heard.mode), flags, all, j, kept(j), 2).evaluate();
-    let unlike = other.is_some_and(|(start, _)| start != position);
+    let unlike = other.is_some_and(|other| other.position != found.position);
     let name = "later tones, heard at once, would tell another parity";
     run.classes.session.note(name, unlike);
 }

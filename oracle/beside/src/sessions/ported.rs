@@ -21,6 +21,8 @@ pub trait Ported {
     fn read(&self) -> Answer;
     /// The card.
     fn card(&self) -> Made;
+    /// The count of windows in the record, where it can be seen.
+    fn windows(&self) -> Option<u16>;
     /// Which of the two it is.
     fn kind(&self) -> &'static str;
 }
@@ -92,6 +94,10 @@ impl Ported for Library {
         (or_refused(card.map(card_answer)), None)
     }
 
+    fn windows(&self) -> Option<u16> {
+        None
+    }
+
     fn kind(&self) -> &'static str {
         "through the library"
     }
@@ -126,6 +132,7 @@ const NOTHING: RawSession = RawSession {
     skip: 0,
     start_quality: 0.0,
     quality: 0.0,
+    windows: 0,
     mode: 0,
     phase: 0,
     has_slant: 0,
@@ -306,6 +313,10 @@ impl Ported for Marked {
         raw_card(&raw)
     }
 
+    fn windows(&self) -> Option<u16> {
+        Some(self.session.windows)
+    }
+
     fn kind(&self) -> &'static str {
         "over marked memory"
     }
@@ -318,9 +329,11 @@ fn read_answer(read: &ffi::RawReading) -> Answer {
         return Answer::Refused(read.refusal.into());
     }
     let (start, start_quality) = (read.start, read.start_quality);
+    let windows = read.windows.into();
     let end = match read.end {
         0 => End::Reported {
             start,
+            windows,
             start_quality,
             report: Report {
                 rate: read.rate,
@@ -332,6 +345,7 @@ fn read_answer(read: &ffi::RawReading) -> Answer {
         1 => End::Unfound,
         _ => End::CutShort {
             start,
+            windows,
             start_quality,
         },
     };

@@ -164,7 +164,7 @@ fn start(mode: usize, sound: &Sound, anchor: u64, last: usize) -> Option<u64> {
     inject(sound.flags[due - 1]);
     let piece = &sound.samples[4 * due..4 * (due + last)];
     detector.process(piece, anchor + 4 * (due + last) as u64);
-    detector.start().map(|(position, _)| position)
+    detector.start().map(|start| start.position)
 }
 
 /// Where the parity tone of line `k` begins, the start being `start`.

@@ -1,17 +1,19 @@
 //! Recordings over the Rust: `recording replay FILE...` makes the calls again
 //! and prints what differs, `recording record FILE` writes a recording with
 //! the Rust's answers, `recording sample SEED` writes one of calls that it
-//! makes up. Status 0: done; 1: an answer differs; 2: a file or an argument is
-//! not what it should be.
+//! makes up, with `--version 1` before the seed a short one of that version.
+//! Status 0: done; 1: an answer differs; 2: a file or an argument is not what it
+//! should be.
 
 use drive::machine::Rust;
 use recording::commands::{record_file, replay_files};
+use recording::Version;
 use std::cell::Cell;
 use std::path::{Path, PathBuf};
 use std::process::ExitCode;
 use std::rc::Rc;
 
-const USAGE: &str = "usage: recording replay FILE... | record FILE | sample SEED";
+const USAGE: &str = "usage: recording replay FILE... | record FILE | sample [--version 1] SEED";
 
 fn main() -> ExitCode {
     let words: Vec<String> = std::env::args().skip(1).collect();
@@ -26,7 +28,8 @@ fn main() -> ExitCode {
             let mut rust = Rust::counting(refused.clone());
             record_file(Path::new(file), &mut rust).map(|()| true)
         }
-        ["sample", seed] => sample(seed),
+        ["sample", seed] => sample(seed, Version::Two),
+        ["sample", "--version", "1", seed] => sample(seed, Version::One),
         _ => Err(USAGE.to_owned()),
     };
     if refused.get() > 0 {
@@ -43,8 +46,8 @@ fn main() -> ExitCode {
     }
 }
 
-fn sample(seed: &str) -> Result<bool, String> {
+fn sample(seed: &str, version: Version) -> Result<bool, String> {
     let seed = seed.parse().map_err(|_| USAGE.to_owned())?;
-    print!("{}", drive::sample::text(seed));
+    print!("{}", drive::sample::text(seed, version));
     Ok(true)
 }

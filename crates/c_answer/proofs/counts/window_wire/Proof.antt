@@ -12,8 +12,8 @@ enum-known-answer c = search needs
 enum-known-answer-2 : tie.Need-enum-known-answer-2
 enum-known-answer-2 c = search needs
 
-cast-t6 : tie.Need-cast-t6
-cast-t6 c = search needs
+cast-t7 : tie.Need-cast-t7
+cast-t7 c = search needs
 
 returns : tie.Need-returns
 returns c = ap windowWire (sym (c .before .answer .given .1))
@@ -22,4 +22,4 @@ returns-2 : tie.Need-returns-2
 returns-2 c = ap windowWire (sym (c .before .answer2 .given .1))
 
 pub window-wire-spec : {M : Type 1} → statement M
-window-wire-spec = tie.close (tie.spec enum-known-answer enum-known-answer-2 cast-t6 returns returns-2)
+window-wire-spec = tie.close (tie.spec enum-known-answer enum-known-answer-2 cast-t7 returns returns-2)
