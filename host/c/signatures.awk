@@ -2,14 +2,7 @@
 # declarations of them (.rs) and the C header (.h). Fails unless the three say the
 # same: name, result, and type and name of each parameter in order. Writes each
 # call as a C declaration, which layout.c includes behind the header, so that what
-# was read here is what the compiler reads.
-
-function struct(name) {
-    sub(/^(Funnelivy|Raw)/, "", name)
-    if (kind == "rs" && name !~ /^(Session|Opened|Fed|Reading|Card|CardAnswer)$/) name = name "Answer"
-    gsub(/[A-Z]/, "_&", name)
-    return "funnelivy" tolower(name)
-}
+# was read here is what the compiler reads. same.awk comes before it.
 
 function type(name) {
     if (name == "usize") return "size_t"
@@ -17,7 +10,7 @@ function type(name) {
     if (name == "f64") return "double"
     if (name ~ /^u(8|16|32|64)$/) return "uint" substr(name, 2) "_t"
     if (name ~ /^i(8|16|32|64)$/) return "int" substr(name, 2) "_t"
-    return struct(name)
+    return struct_name(name)
 }
 
 # A slice is a pointer and a length.
@@ -46,18 +39,14 @@ function declaration(text,    name, list, result, n, i, part, field) {
     return type(result) " " name "(" list ");"
 }
 
-function found(c,    name) {
-    name = c
-    sub(/\(.*/, "", name)
-    sub(/.* /, "", name)
-    calls[kind] += 1
-    said[kind, name] = c
-    names[name] = 1
+# The name of a C declaration.
+function called(text) {
+    sub(/\(.*/, "", text)
+    sub(/.* /, "", text)
+    return text
 }
 
 FNR == 1 {
-    kind = FILENAME
-    sub(/.*\./, "", kind)
     text = ""
     reading = 0
 }
@@ -78,24 +67,13 @@ reading && last {
     gsub(/ +/, " ", text)
     sub(/ $/, "", text)
     sub(/^pub (extern "C" )?fn /, "", text)
-    found(kind == "h" ? text ";" : declaration(text))
+    text = kind == "h" ? text ";" : declaration(text)
+    found(called(text), text)
     text = ""
     reading = 0
 }
 
 END {
-    wrong = 0
-    for (name in names) {
-        print said["rt", name]
-        if (said["rt", name] != said["rs", name] || said["rt", name] != said["h", name]) {
-            wrong = 1
-            printf "signatures.awk: %s differs:\n  Rattle %s\n  Rust   %s\n  header %s\n", name, said["rt", name], said["rs", name], said["h", name] > "/dev/stderr"
-        }
-    }
-    # A source that is laid out in another way must not pass unread.
-    if (calls["rt"] != 14 || calls["rs"] != 14 || calls["h"] != 14) {
-        wrong = 1
-        printf "signatures.awk: %d calls in the Rattle source, %d in the Rust, %d in the header, not 14\n", calls["rt"], calls["rs"], calls["h"] > "/dev/stderr"
-    }
-    exit wrong
+    for (name in names) print said["rt", name]
+    exit differ("signatures.awk", "calls", 14)
 }
