@@ -2,6 +2,8 @@
 // The Rust calls sin, cos and tan of `deg2rad` for each vote. These are its values: the bits that its standard library
 // gave on the comparing machine (x86-64 Linux), which the oracle prints and compares. One, the cosine at 143, is not the nearest f64.
 // A caller lends a local copy to its loops: an indexed constant is built anew at each read.
+#![tactic(auto)]
+
 mod cosine;
 mod sine;
 mod tangent;

@@ -1,5 +1,7 @@
 // Answers of the C interface's single calls as records of numbers, as include/funnelivy.h declares them.
 // A record has the refusal's number or 0, and 0 in every field that the answer does not have.
+#![tactic(auto)]
+
 pub mod counts;
 pub mod report;
 pub mod sizes;

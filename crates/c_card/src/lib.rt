@@ -1,5 +1,7 @@
 // A ledger card and the answers of its calls as records of numbers, as include/funnelivy.h declares them, and which card a record says.
 // A refused answer has the refusal's number, and 0 in every other field.
+#![tactic(auto)]
+
 ghost use Rattle.std.specs.Prelude.{◌≡◌};
 ghost use Rattle.c_card.specs.Cards.{card_of_wire, card_wire, holding, refused_by, written_wire, read_wire, session_card_wire};
 

@@ -1,5 +1,7 @@
 // A session and the answers of its calls as records of numbers, as include/funnelivy.h declares them, and which session a record says.
 // A record has the refusal's number or 0, and 0 in every field that the answer does not have.
+#![tactic(auto)]
+
 pub mod calls;
 pub mod record;
 

@@ -1,4 +1,6 @@
 // The ledger card: an ended session as 56 bytes.
+#![tactic(auto)]
+
 mod check;
 mod fields;
 

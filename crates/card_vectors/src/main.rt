@@ -5,6 +5,8 @@
 // Operation 1, one byte changed: the payload is a card and 256 refusals, that of each value of the card's byte at place a.
 // Operation 2, write: the payload has the fields, a is the buffer's length, x the refusal, 0 for none. Behind the fields of a card
 // that is not refused stand its bytes.
+#![tactic(auto)]
+
 ghost use Rattle.std.specs.Prelude.{◌≤◌, length};
 
 use card::{Card, CardRead, Written};

@@ -1,4 +1,6 @@
 // The 700 columns that a line is folded into: a column's part of its line, and the flag that covers a time.
+#![tactic(auto)]
+
 mod parts;
 
 ghost use Rattle.std.specs.Prelude.{◌≡◌, ◌≤◌};

@@ -1,4 +1,6 @@
 // Signal functions of dsp.rs: the power of one tone, and what the spectrum of a probe is made of.
+#![tactic(auto)]
+
 ghost use Rattle.std.specs.Prelude.{◌≡◌};
 ghost use Rattle.dsp.specs.Goertzel.{coefficient1500, coefficient2300, next_value, power_at, goertzel_power};
 ghost use Rattle.dsp.specs.Spectrum.{power_of, bin_of, hann};

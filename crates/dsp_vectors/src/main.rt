@@ -3,6 +3,8 @@
 // Operation 2: the window around centre a of the first y numbers of the payload. The last 16 are the real parts of its first
 // pairs, and every other number is 0.
 // Operation 3: the decision on the payload's 258 numbers at the shift with the pattern a. x is 1 for yes.
+#![tactic(auto)]
+
 ghost use Rattle.std.specs.Prelude.{◌≡◌, ◌+◌, ◌≤◌, length};
 
 use probe::{ProbeAnswer, WindowAnswer};

@@ -1,5 +1,7 @@
 // The first line of a window that carries the sync pulse.
 // From slowrx.rs's sync_start.rs.
+#![tactic(auto)]
+
 ghost use Rattle.std.specs.Prelude.{◌≡◌, ◌-◌, ◌^◌, ◌<◌, ◌≤◌, length, slice_index};
 ghost use Rattle.modespec.specs.Sizes as Sizes;
 ghost use Rattle.first_line.specs.Pulsed as Pulsed;

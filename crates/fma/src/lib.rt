@@ -1,4 +1,6 @@
 // IEEE 754's fused multiply-add, from whole numbers of 64 bits: one rounding.
+#![tactic(auto)]
+
 ghost use Rattle.std.specs.Prelude.{◌≡◌, ◌+◌, ◌*◌, ◌-◌, ◌≤◌, ◌<◌, ◌^◌, ltb, eqb};
 ghost use Rattle.std.specs.Int.Count.{count_leading_zeros};
 ghost use Rattle.fma.specs.Near.{Near, Jammed, Top, Digits, Finished, Placed, Summed, Settled, Factors, Sorted, Finite};

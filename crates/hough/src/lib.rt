@@ -1,5 +1,7 @@
 // The search for a picture's slant: one pass draws the flags as an image and lets its pixels vote for lines
 // (`hough_detect_slant`), and up to four passes correct the rate.
+#![tactic(auto)]
+
 mod image;
 mod votes;
 

@@ -93,3 +93,9 @@ unique f g (fin t (suc m) e) (fin u zero d) s a c C p q v w =
 unique f g (fin t (suc m) e) (fin u (suc n) d) s a c C p q v w =
     let r = exps (suc m) (suc n) e d (held f t m e p).odd (held g u n d q).odd (cross (suc m * up e) (suc n * up d) (down e) (down d) a c C v.1 w.1) in
     λ i. fin ((v.0 ∙ sym w.0) i) (r.0 i) (r.1 i)
+unique f g nan y s a c C p q v w = elim v [ ]
+unique f g (inf _) y s a c C p q v w = elim v [ ]
+unique f g (fin t zero e) nan s a c C p q v w = elim w [ ]
+unique f g (fin t zero e) (inf _) s a c C p q v w = elim w [ ]
+unique f g (fin t (suc m) e) nan s a c C p q v w = elim w [ ]
+unique f g (fin t (suc m) e) (inf _) s a c C p q v w = elim w [ ]

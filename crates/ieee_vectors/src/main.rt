@@ -1,5 +1,7 @@
 // Replays the Rust's answers to the float operations. The file `vectors` has short records: the operation,
 // its operands and the answer. Floats are bit patterns, and an `i64` is its bits in two's complement.
+#![tactic(auto)]
+
 use replay::tally::Tally;
 use replay::{Short, tally};
 

@@ -1,4 +1,6 @@
 // The card of a session: its end as the fields of a ledger card.
+#![tactic(auto)]
+
 ghost use Rattle.std.specs.Prelude.{◌≡◌};
 ghost use Rattle.ledger.specs.Ledger.{index_at, slant_index, unreported_card, card_by, card_given, session_card};
 

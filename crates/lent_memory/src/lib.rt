@@ -1,4 +1,6 @@
 // What a call does to the memory that it is lent. Each session begins over marks, which no flag and no sample is.
+#![tactic(auto)]
+
 pub mod pieces;
 
 ghost use Rattle.std.specs.Prelude.{◌≤◌};

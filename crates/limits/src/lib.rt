@@ -1,4 +1,6 @@
 // Sizes of lent memory, limits of numbers, and the tests of flags and samples that several calls make before they take anything.
+#![tactic(auto)]
+
 ghost use Rattle.std.specs.Prelude.{◌≡◌, min, max};
 ghost use Rattle.limits.specs.Ranges.{all_at_most, unsound, any_unsound};
 

@@ -1,5 +1,7 @@
 // Parity of the first line. Robot 24 and 36 send one colour on even lines and the other on odd ones, and mark which by a tone.
 // From slowrx.rs's sync_start.rs.
+#![tactic(auto)]
+
 ghost use Rattle.std.specs.Prelude.{◌≡◌, true, ◌≤◌, length};
 ghost use Rattle.modespec.specs.Sizes as Sizes;
 ghost use Rattle.line_parity.specs.Parity as Parity;

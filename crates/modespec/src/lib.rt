@@ -1,5 +1,7 @@
 // SSTV mode specifications: the sixteen rows, and the sizes that follow from a row.
 // From slowrx.rs's modespec.rs; the sizes are those of sync.rs and sync_start.rs.
+#![tactic(auto)]
+
 ghost use Rattle.std.specs.Prelude.{◌≡◌, ◌^◌, ◌<◌};
 ghost use Rattle.modespec.specs.ModeSpec.{spec_of};
 ghost use Rattle.modespec.specs.Sizes as Sizes;

@@ -1,4 +1,6 @@
 // Replays the Rust's rows and sizes of the sixteen modes, from the file `vectors` of short records.
+#![tactic(auto)]
+
 use modespec::{ChannelLayout, Columns, ModeSpec, SyncPosition};
 use replay::tally::Tally;
 use replay::{Short, tally};

@@ -1,5 +1,7 @@
 // The two spectrum calls of `SyncTracker` in sync.rs, without the transform between them: the window of samples that is to be
 // transformed, and the decision on what the transform gives.
+#![tactic(auto)]
+
 pub mod decision;
 pub mod window;
 

@@ -1,5 +1,7 @@
 // What the column counts of a fold tell: the best pulse window, the quality of the sync and the falling edge.
 // From slowrx.rs's sync.rs.
+#![tactic(auto)]
+
 ghost use Rattle.std.specs.Prelude.{◌≡◌, ◌+◌, ◌-◌, ◌*◌, ◌/◌, ◌%◌, ◌≤◌, ◌<◌, ◌^◌, max, cond, leb, length, get_or};
 ghost use Rattle.std.specs.Int.Signed.{mag};
 ghost use Rattle.pulse.specs.Sums.{sum_from, largest, FirstLargest};

@@ -2,6 +2,8 @@
 // of counts: as they are where c is 0, else as pairs of a count and how often it stands.
 // Operation 0: the best window of width a has the start x and the sum y, which z windows have. Operation 1: the quality in mode a
 // over b lines has the pattern x, or is refused with 9 where b is above 65,536. Operation 2: the falling edge is column x.
+#![tactic(auto)]
+
 ghost use Rattle.std.specs.Prelude.{◌≤◌, length};
 
 use pulse::{EdgeAnswer, QualityAnswer, WindowAnswer};

@@ -1,6 +1,8 @@
 // Reading vector files, with which test programs compare a function's answers with the Rust's. A short
 // record is five words: the operation, three operands, and the answer. A long record is eight words, of
 // which the last says how many bytes follow, and these bytes. A word has eight bytes, the least first.
+#![tactic(auto)]
+
 pub mod lists;
 pub mod tally;
 

@@ -1,4 +1,6 @@
 // The session: a record by value over stores and work memory that the caller lends. Each method takes it and hands the advanced record back.
+#![tactic(auto)]
+
 ghost use Rattle.std.specs.Prelude.{◌≡◌, true, false, ◌+◌, ◌*◌, ◌≤◌, ◌<◌, length};
 ghost use Rattle.modespec.specs.Sizes.{robot};
 ghost use Rattle.plain.specs.declared.Phase.TheVariants as Phase;

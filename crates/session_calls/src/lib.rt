@@ -1,4 +1,6 @@
 // One call over lent memory: the call, and whether its answer is the Rust's.
+#![tactic(auto)]
+
 mod reading;
 mod session_card;
 

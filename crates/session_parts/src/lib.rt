@@ -1,4 +1,6 @@
 // What a session is made of and works on without its record: the stores, the phases with the sizes that change them, and the numbers of refused calls.
+#![tactic(auto)]
+
 pub mod phases;
 pub mod refusals;
 pub mod stores;

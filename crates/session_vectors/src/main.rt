@@ -5,6 +5,8 @@
 // Operation 1, feed: lengths a of the piece, b of the stores, c of the work memories, refusal x, y flags taken. The payload has the
 // flags, how many of them are overwritten, their places and values, and the pieces of the samples.
 // Operation 2, read: refusal x, end y, and nine words in the payload. Behind them stand the 56 bytes of the session's card.
+#![tactic(auto)]
+
 mod records;
 
 use plain::Phase;

@@ -1,5 +1,7 @@
 // `find_sync`: the slant of a picture corrects the rate, and a fold at that rate gives the skip and the quality.
 // From slowrx.rs's sync.rs.
+#![tactic(auto)]
+
 ghost use Rattle.std.specs.Prelude.{◌≡◌, ℕ, ◌+◌, ◌≤◌, ◌<◌, true, length, get_or, T};
 ghost use Rattle.std.specs.Float.{nan};
 ghost use Rattle.std.specs.Float.Ieee.Positive.{positive};

@@ -1,5 +1,7 @@
 // One evaluation of the start search: is there a picture whose sync pulses line up, and where does it start?
 // From slowrx.rs's sync_start.rs.
+#![tactic(auto)]
+
 ghost use Rattle.std.specs.Prelude.{◌≡◌, ◌+◌, ◌*◌, ◌≤◌, length};
 ghost use Rattle.modespec.specs.ModeSpec.{spec_of};
 ghost use Rattle.modespec.specs.Sizes as Sizes;

@@ -4,6 +4,8 @@
 // Operation 1: a search in mode a over b flags that makes c evaluations. x, y and z are those of the last one. The payload has
 // the flags, the c qualities, and the pieces of the samples.
 // Operation 2: the first line of window b in mode a that is pulsed in column c. x is the line, all ones for none. The payload has the flags.
+#![tactic(auto)]
+
 ghost use Rattle.std.specs.Prelude.{◌≡◌, ◌≤◌, length};
 ghost use Rattle.modespec.specs.ModeSpec.{spec_of};
 ghost use Rattle.modespec.specs.Sizes as Sizes;

@@ -1,5 +1,7 @@
 // Replays the Rust's answers to `find_sync`. The file `vectors` has long records, operation 0: mode a, starting rate b (its
 // pattern), and the flags' run lengths as payload; the rate x, the slant y (all ones for none), the skip z and the quality c.
+#![tactic(auto)]
+
 use hough::SlantDeg;
 use replay::tally::Tally;
 use replay::{Long, tally};

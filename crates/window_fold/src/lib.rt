@@ -1,5 +1,7 @@
 // The fold of a window of flags: how many lines have a flag set, for each of 700 columns.
 // From slowrx.rs's sync_start.rs.
+#![tactic(auto)]
+
 ghost use Rattle.std.specs.Prelude.{◌≡◌, ℕ, ◌+◌, ◌≤◌, ◌<◌, length, get_or};
 ghost use Rattle.limits.specs.Ranges.{all_at_most};
 ghost use Rattle.columns.specs.Columns.{list_to, column_part};

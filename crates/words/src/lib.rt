@@ -1,4 +1,6 @@
 // Numbers as bytes, the least first, and back: whole numbers, signed ones in two's complement, and the bit patterns of floats. A word has eight bytes, a half word four.
+#![tactic(auto)]
+
 ghost use Rattle.std.specs.Prelude.{◌≡◌, ◌+◌, ◌*◌, ◌%◌, ◌^◌, ◌≤◌, ◌<◌, length};
 ghost use Rattle.std.proofs.lemmas.List.Edits.{sets};
 ghost use Rattle.std.specs.Float.Ieee as Ieee;
