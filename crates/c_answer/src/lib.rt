@@ -8,7 +8,7 @@ pub mod sizes;
 pub mod sound;
 
 #[repr(C)]
-#[derive(Drop)]
+#[derive(Clone, Copy)]
 pub struct FunnelivySizesAnswer {
     pub refusal: u32,
     pub window: u64,
@@ -16,14 +16,14 @@ pub struct FunnelivySizesAnswer {
 }
 
 #[repr(C)]
-#[derive(Drop)]
+#[derive(Clone, Copy)]
 pub struct FunnelivyColumnsAnswer {
     pub refusal: u32,
     pub columns: u64,
 }
 
 #[repr(C)]
-#[derive(Drop)]
+#[derive(Clone, Copy)]
 pub struct FunnelivyWindowAnswer {
     pub refusal: u32,
     pub start: u64,
@@ -32,14 +32,14 @@ pub struct FunnelivyWindowAnswer {
 }
 
 #[repr(C)]
-#[derive(Drop)]
+#[derive(Clone, Copy)]
 pub struct FunnelivyQualityAnswer {
     pub refusal: u32,
     pub quality: f32,
 }
 
 #[repr(C)]
-#[derive(Drop)]
+#[derive(Clone, Copy)]
 pub struct FunnelivyReportAnswer {
     pub refusal: u32,
     pub has_slant: u32,
@@ -50,7 +50,7 @@ pub struct FunnelivyReportAnswer {
 }
 
 #[repr(C)]
-#[derive(Drop)]
+#[derive(Clone, Copy)]
 pub struct FunnelivyDecisionAnswer {
     pub refusal: u32,
     pub has_sync: u32,

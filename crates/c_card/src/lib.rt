@@ -10,7 +10,7 @@ use ledger::SessionCard;
 
 // What a card holds: `card::Card`, with the widest fields first.
 #[repr(C)]
-#[derive(Drop)]
+#[derive(Clone, Copy)]
 pub struct FunnelivyCard {
     pub taken: u64,
     pub evaluations: u64,
@@ -25,7 +25,7 @@ pub struct FunnelivyCard {
 }
 
 #[repr(C)]
-#[derive(Drop)]
+#[derive(Clone, Copy)]
 pub struct FunnelivyCardAnswer {
     pub refusal: u32,
     pub card: FunnelivyCard,

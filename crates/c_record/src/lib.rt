@@ -7,7 +7,7 @@ pub mod record;
 
 // A session, kept by the host and handed back to the next call.
 #[repr(C)]
-#[derive(Drop)]
+#[derive(Clone, Copy)]
 pub struct FunnelivySession {
     pub anchor: u64,
     pub capacity: u64,
@@ -27,14 +27,14 @@ pub struct FunnelivySession {
 }
 
 #[repr(C)]
-#[derive(Drop)]
+#[derive(Clone, Copy)]
 pub struct FunnelivyOpened {
     pub refusal: u32,
     pub session: FunnelivySession,
 }
 
 #[repr(C)]
-#[derive(Drop)]
+#[derive(Clone, Copy)]
 pub struct FunnelivyFed {
     pub refusal: u32,
     pub taken: u64,
@@ -42,7 +42,7 @@ pub struct FunnelivyFed {
 }
 
 #[repr(C)]
-#[derive(Drop)]
+#[derive(Clone, Copy)]
 pub struct FunnelivyReading {
     pub refusal: u32,
     pub end: u32,

@@ -8,7 +8,7 @@ ghost use Rattle.std.specs.Prelude.{◌≡◌, length};
 ghost use Rattle.card.specs.Card.{write_answer, buffer_after, read_answer};
 
 // What a card holds. `end` is 0 for reported, 1 for unfound and 2 for cut short, and `slant` the index of the slant's angle, 255 for none.
-#[derive(Drop)]
+#[derive(Clone, Copy)]
 pub struct Card {
     pub mode: u8,
     pub end: u8,
@@ -22,13 +22,13 @@ pub struct Card {
     pub quality: f32,
 }
 
-#[derive(Drop)]
+#[derive(Clone, Copy)]
 pub enum Written {
     Done,
     Refused(u8),
 }
 
-#[derive(Drop)]
+#[derive(Clone, Copy)]
 pub enum CardRead {
     Holds(Card),
     Refused(u8),

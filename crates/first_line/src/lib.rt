@@ -10,14 +10,14 @@ ghost use Rattle.first_line.specs.Steps as Steps;
 use modespec::ModeSpec;
 
 // The first line of a window that carries the pulse.
-#[derive(Drop)]
+#[derive(Clone, Copy)]
 pub enum FirstLine {
     Missing,
     Line(usize),
 }
 
 // The flags that are looked at around a pulse: from `lo` to the one before `hi`.
-#[derive(Drop)]
+#[derive(Clone, Copy)]
 pub struct Span {
     pub lo: usize,
     pub hi: usize,

@@ -10,14 +10,14 @@ ghost use Rattle.std.specs.Float.{binary64};
 ghost use Rattle.std.specs.Float.Ieee.{unlike};
 
 // A value q * 2^k / 2^1126, with 2^52 <= q < 2^53, or q = 0.
-#[derive(Drop)]
+#[derive(Clone, Copy)]
 struct Parts {
     q: u64,
     k: u64,
 }
 
 // hi * 2^64 + lo
-#[derive(Drop)]
+#[derive(Clone, Copy)]
 struct Wide {
     hi: u64,
     lo: u64,

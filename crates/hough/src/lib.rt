@@ -14,21 +14,21 @@ ghost use Rattle.hough.specs.Passes.{outside_deadband, slant_ok, adjusted, passe
 use modespec::ModeSpec;
 
 // The answer of a pass.
-#[derive(Drop)]
+#[derive(Clone, Copy)]
 pub enum Slant {
     None,
     Found { angle: f64, rate: f64 },
 }
 
 // The angle of the last slant found, in degrees.
-#[derive(Drop)]
+#[derive(Clone, Copy)]
 pub enum SlantDeg {
     None,
     Degrees(f64),
 }
 
 // The rate after the passes, and the slant.
-#[derive(Drop)]
+#[derive(Clone, Copy)]
 pub struct Passes {
     pub rate: f64,
     pub slant_deg: SlantDeg,
@@ -36,14 +36,14 @@ pub struct Passes {
 
 // The cell with the highest count so far, and that count. (A count has 16 bits; a struct without padding is copied
 // faster.)
-#[derive(Drop)]
+#[derive(Clone, Copy)]
 pub struct Leader {
     pub count: usize,
     pub cell: usize,
 }
 
 // The cell that a pixel votes for at an angle, if the vote is admissible.
-#[derive(Drop)]
+#[derive(Clone, Copy)]
 pub enum Vote {
     NoCell,
     Cell(usize),

@@ -10,7 +10,7 @@ use plain::{End, Reading};
 use session::{Given, Session};
 
 // The card, or the refusal's number.
-#[derive(Drop)]
+#[derive(Clone, Copy)]
 pub enum SessionCard {
     Of(Card),
     Refused(u8),

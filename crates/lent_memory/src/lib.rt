@@ -48,7 +48,7 @@ pub fn sum32(memory: &[f32]) -> f64 {
 }
 
 // The sums over all that a feed is lent.
-#[derive(Drop)]
+#[derive(Clone, Copy)]
 pub struct Sums {
     pub store: u64,
     pub audio: f64,

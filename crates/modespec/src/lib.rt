@@ -8,7 +8,7 @@ ghost use Rattle.modespec.specs.Sizes as Sizes;
 ghost use Rattle.modespec.specs.Calls.{columns_of};
 
 // How a radio line carries its channels. Two image rows go into one radio line of `PdYcbcr`.
-#[derive(Drop)]
+#[derive(Clone, Copy)]
 pub enum ChannelLayout {
     PdYcbcr,
     RobotYuv,
@@ -17,14 +17,14 @@ pub enum ChannelLayout {
 }
 
 // Where the sync pulse sits within a radio line.
-#[derive(Drop)]
+#[derive(Clone, Copy)]
 pub enum SyncPosition {
     LineStart,
     Scottie,
 }
 
 // Mode timing and layout. `mode` is the mode's number in the order of `SstvMode`.
-#[derive(Drop)]
+#[derive(Clone, Copy)]
 pub struct ModeSpec {
     pub mode: u8,
     pub line_pixels: u32,
@@ -46,7 +46,7 @@ const MIN_WINDOW_LINES: usize = 8;
 const MIN_WINDOW_SECONDS: f64 = 2.0;
 
 // The answer of `sync_pulse_columns`: how many columns, or the number of the refusal.
-#[derive(Drop)]
+#[derive(Clone, Copy)]
 pub enum Columns {
     Count(usize),
     Refused(u8),

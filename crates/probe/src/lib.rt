@@ -10,13 +10,13 @@ ghost use Rattle.probe.specs.Refusals.{all_of, is_finite, shift_allowed};
 ghost use Rattle.probe.specs.Window.{Windowed};
 ghost use Rattle.probe.specs.Decision.{probe_answer};
 
-#[derive(Drop)]
+#[derive(Clone, Copy)]
 pub enum WindowAnswer {
     Filled,
     Refused(u8),
 }
 
-#[derive(Drop)]
+#[derive(Clone, Copy)]
 pub enum ProbeAnswer {
     Yes,
     No,

@@ -17,7 +17,7 @@ ghost use Rattle.modespec.specs.Sizes.{pulse_columns};
 use modespec::ModeSpec;
 
 // The first of the windows with the largest sum, that sum, and how many windows have it.
-#[derive(Drop)]
+#[derive(Clone, Copy)]
 pub struct BestWindow {
     pub start: usize,
     pub sum: u64,
@@ -25,28 +25,28 @@ pub struct BestWindow {
 }
 
 // The first of the places with the largest fall, and that fall.
-#[derive(Drop)]
+#[derive(Clone, Copy)]
 pub struct FallingPlace {
     pub at: usize,
     pub fall: u64,
 }
 
 // The answer of `best_pulse_window`.
-#[derive(Drop)]
+#[derive(Clone, Copy)]
 pub enum WindowAnswer {
     Found(BestWindow),
     Refused(u8),
 }
 
 // The answer of `sync_quality`.
-#[derive(Drop)]
+#[derive(Clone, Copy)]
 pub enum QualityAnswer {
     Quality(f32),
     Refused(u8),
 }
 
 // The answer of `falling_edge_from_x_acc`.
-#[derive(Drop)]
+#[derive(Clone, Copy)]
 pub enum EdgeAnswer {
     Column(usize),
     Refused(u8),

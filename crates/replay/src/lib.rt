@@ -15,7 +15,7 @@ pub use words::{
 };
 
 // What is read of a file of short records. `Cut` is a record that the file does not hold whole.
-#[derive(Drop)]
+#[derive(Clone, Copy)]
 pub enum Short {
     End,
     Cut,
@@ -29,7 +29,7 @@ pub enum Short {
 }
 
 // What is read of a file of long records. The n bytes of a case are read by `payload`.
-#[derive(Drop)]
+#[derive(Clone, Copy)]
 pub enum Long {
     End,
     Cut,

@@ -4,7 +4,7 @@ ghost use Rattle.std.specs.Prelude.{◌≤◌, length};
 use libc::STDOUT_FILENO;
 
 // The records seen, those that are wrong, those of each operation, and whether there may be more.
-#[derive(Drop)]
+#[derive(Clone, Copy)]
 pub struct Tally {
     pub seen: u64,
     pub wrong: u64,

@@ -11,7 +11,7 @@ ghost use Rattle.session.specs.Steps.{Gap, in_phase, Judged, Finished, Closed, T
 use plain::{Phase, Reading};
 use session_parts::{phases, refusals, stores};
 
-#[derive(Drop)]
+#[derive(Clone, Copy)]
 pub struct Session {
     pub mode: u8,
     pub anchor: u64,
@@ -24,25 +24,25 @@ pub struct Session {
 }
 
 // What the calls answer. A refusal is its number alone.
-#[derive(Drop)]
+#[derive(Clone, Copy)]
 pub enum Opened {
     Ready(Session),
     Refused(u8),
 }
 
-#[derive(Drop)]
+#[derive(Clone, Copy)]
 pub enum Fed {
     Took(usize, Session),
     Refused(u8),
 }
 
-#[derive(Drop)]
+#[derive(Clone, Copy)]
 pub enum Given {
     Gave(Reading),
     Refused(u8),
 }
 
-#[derive(Drop)]
+#[derive(Clone, Copy)]
 struct Progress {
     count: usize,
     session: Session,

@@ -8,7 +8,7 @@ use lent_memory as memory;
 use session::{Fed, Given, Opened, Session};
 
 // The session after a call, and whether the answer was right.
-#[derive(Drop)]
+#[derive(Clone, Copy)]
 pub struct Turn {
     pub session: Session,
     pub right: bool,
@@ -95,7 +95,7 @@ fn kept(
 }
 
 // What a feed answered: the session to go on with, whether and by which number it was refused, and the flags taken.
-#[derive(Drop)]
+#[derive(Clone, Copy)]
 struct Told {
     session: Session,
     refused: bool,

@@ -15,7 +15,7 @@ use replay::{Long, tally};
 use session::Session;
 
 // The session that goes on, and what is counted.
-#[derive(Drop)]
+#[derive(Clone, Copy)]
 struct Point {
     session: Session,
     tally: Tally,

@@ -4,7 +4,7 @@ use session::Session;
 use session_calls::Turn;
 
 // A record without its payload.
-#[derive(Drop)]
+#[derive(Clone, Copy)]
 pub struct Head {
     pub op: u64,
     pub a: u64,

@@ -14,7 +14,7 @@ use hough::{Passes, SlantDeg};
 use modespec::ModeSpec;
 
 // The rate that cancels the slant, and where line 0 begins, in samples from the first flag on.
-#[derive(Drop)]
+#[derive(Clone, Copy)]
 pub struct SyncResult {
     pub adjusted_rate_hz: f64,
     pub skip_samples: i64,
@@ -23,7 +23,7 @@ pub struct SyncResult {
 }
 
 // The answer of `find_sync`.
-#[derive(Drop)]
+#[derive(Clone, Copy)]
 pub enum SyncAnswer {
     Found(SyncResult),
     Refused(u8),

@@ -13,14 +13,14 @@ use first_line::FirstLine;
 use modespec::ModeSpec;
 
 // Where a picture starts, as a sample counted from the anchor, and how many pulse windows have the largest sum there.
-#[derive(Drop)]
+#[derive(Clone, Copy)]
 pub enum Located {
     Nowhere,
     At(u64, u16),
 }
 
 // What an evaluation gives: its quality, the streak behind it, and the start.
-#[derive(Drop)]
+#[derive(Clone, Copy)]
 pub struct Evaluation {
     pub quality: f32,
     pub streak: u64,

@@ -17,7 +17,7 @@ use replay::{Long, lists, tally};
 use sync_start::{Evaluation, Located};
 
 // A record without its payload.
-#[derive(Drop)]
+#[derive(Clone, Copy)]
 struct Head {
     op: u64,
     mode: u8,
@@ -108,7 +108,7 @@ fn same(e: Evaluation, x: u64, y: u64, z: u64) -> bool {
 // ---- a search
 
 // The last evaluation of a search, and whether all of its qualities were right so far.
-#[derive(Drop)]
+#[derive(Clone, Copy)]
 struct Progress {
     last: Evaluation,
     right: bool,
