@@ -1,7 +1,7 @@
 /*
  * Funnelivy: where a slow-scan picture starts, at what true rate, and how far
- * to skip. C interface of the static library that `rt staticlib funnelivy`
- * writes to target/staticlib/libfunnelivy.a (x86-64).
+ * to skip. C interface of the static library that `host/staticlib` writes to
+ * target/staticlib/libfunnelivy.a (x86-64).
  *
  * Every call is total: an argument that does not meet the call's conditions is
  * refused with the lowest number that applies, 0 meaning that nothing is

@@ -8,7 +8,7 @@ fn main() {
     let library = folder.join("libfunnelivy.a");
     assert!(
         library.exists(),
-        "target/staticlib/libfunnelivy.a is missing: run `rt staticlib funnelivy` at the repository's root"
+        "target/staticlib/libfunnelivy.a is missing: run `host/staticlib` at the repository's root"
     );
     println!("cargo:rustc-link-search=native={}", folder.display());
     println!("cargo:rustc-link-lib=static=funnelivy");
