@@ -1,17 +1,15 @@
 -- Digits cut off with a mark left (`Near`): by one shift, by two in a row, and by the shifts of `jam` and `top63`. Assumes nothing.
 use mathlib.Core.Path.{◌≡◌, refl, sym, ap, ◌∙◌, subst}
 use mathlib.Core.Logic.{◌⊎◌, inl, inr}
-use mathlib.Core.Bool.{Bool, true, false, not, cond}
 use Prim.Native.Nat.{ℕ, zero, suc, ◌+◌, ◌-◌, ◌*◌, ◌/◌, ◌%◌, ◌^◌, ◌≤◌, ◌<◌}
 use native.Mathlib.Nat.{le_trans, le_of_eq, le_refl, le_of_lt, lt_of_lt_of_le, lt_of_le_of_lt, lt_irrefl, zero-lt-suc, zero-add, add-zero, add_assoc, add-mul, zero-mul, mul-one, one-mul, mul_comm, mul_assoc, mul_left_comm, mul_right_comm, mul-pos, suc-mul, mul-le-mul_left, mul-le-mul_right, mul-lt-mul_of_pos_right, pow-succ', div-add-mod', mod-lt, mod-eq_of_lt, div-mul-le_self, eq-zero-or-pos, div-div-eq-div-mul}
 use native.Mathlib.Omega.{arith}
-use lib.Dec.{lit≤, lit<}
+use lib.Dec.{lit≤}
 use lib.Arith.{digits_div, digits_mod, digits_lt}
 use lib.Pow.{pow-add, pow_pos, pow_mono, shl_lt}
 use lib.Bits.{bit_and, bit_or, and_mask, or_add_and}
 use lib.Count.{count_leading_zeros, leading_top}
 use Rattle.fma.specs.Near.{Near, exact, inside, Jammed, Top}
-use Rattle.fma.proofs.Sticky.{near_lt_pow, near_ge_pow}
 
 -- q made odd
 pub odd_is : (q : ℕ) → bit_or q 1 ≡ 2 * (q / 2) + 1

@@ -1,15 +1,13 @@
 -- Rounding a number S by way of a X that stands for it (`Near`): for either format. Assumes nothing.
 use mathlib.Core.Path.{◌≡◌, refl, sym, ap, ◌∙◌, subst}
-use mathlib.Core.Logic.{◌⊎◌, inl, inr}
 use mathlib.Core.Bool.{Bool, true, false, not, cond}
 use Prim.Native.Nat.{ℕ, zero, suc, ◌+◌, ◌-◌, ◌*◌, ◌/◌, ◌%◌, ◌^◌, ◌≤◌, ◌<◌, compare, Ordering}
-use native.Mathlib.Nat.{le_trans, le_of_eq, le_of_lt, le_refl, lt_of_lt_of_le, lt_of_le_of_lt, lt_irrefl, zero-lt-suc, zero-add, add_assoc, add-mul, mul-add, mul-one, one-mul, mul_comm, mul_assoc, mul_left_comm, mul_right_comm, mul-pos, suc-mul, mul-le-mul_left, mul-le-mul_right, mul-lt-mul_of_pos_right, pow-succ', div-add-mod', mod-lt, le-add_right}
+use native.Mathlib.Nat.{le_trans, le_of_eq, le_refl, lt_of_lt_of_le, lt_irrefl, add_assoc, add-mul, mul_comm, mul_assoc, mul_left_comm, mul-pos, mul-le-mul_right, mul-lt-mul_of_pos_right, pow-succ', div-add-mod', mod-lt, le-add_right}
 use native.Mathlib.Omega.{arith}
-use lib.Dec.{T, ltb, ltb→lt, nltb→le, lit≤, lit<}
+use lib.Dec.{T, ltb, ltb→lt, nltb→le}
 use lib.Arith.{digits_div, digits_mod, digits_lt}
-use lib.Pow.{pow-add, pow_pos, pow_mono, shl_lt}
-use lib.Ieee.{Float, Format, prec, low, hid, ones, top, emax, units, nearest, round, of_bits}
-use lib.Ieee.Fits.{two}
+use lib.Pow.{pow-add, pow_pos}
+use lib.Ieee.{Format, prec, low, hid, ones, top, units, nearest, round, of_bits}
 use lib.Ieee.Nearest.{closest, closest_same}
 use Rattle.ieee.proofs.Closest.{Cmp, compare_is}
 use Rattle.ieee.proofs.Pack.{round_at, pack, closest_le, closest_ge}

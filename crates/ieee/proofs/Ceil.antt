@@ -1,7 +1,7 @@
 -- What the proof of `ceil_to_u64` cites: the whole part t of x, cast back to a float and compared with x. Assumes nothing.
-use Rattle.std.proofs.Common.{◌≡◌, ℕ, zero, suc, ◌+◌, ◌-◌, ◌*◌, ◌/◌, ◌%◌, ◌^◌, ◌<◌, ◌≤◌, min, Bool, true, false, cond, not, ◌&&◌, ◌||◌, T, ltb, ℤ, pos, negsuc, sym, refl, ap, ◌∙◌, subst, true≢false, le_trans, le_of_eq, lt_of_lt_of_le, lt_of_le_of_lt, le_of_lt, lt_irrefl, mul-le-mul_right, mod-lt, zero-lt-suc, lt_of_mul-lt-mul_right, mul-le-mul_left, one-mul, div-add-mod', le-div_iff_mul-le, mul-one, mul_right_comm, le_of_mul-le-mul_right, div-one, arith, le→leb, ltb→lt, nltb→le, pow_pos, pow_mono}
+use Rattle.std.proofs.Common.{◌≡◌, ℕ, suc, ◌+◌, ◌-◌, ◌*◌, ◌/◌, ◌%◌, ◌^◌, ◌<◌, ◌≤◌, min, true, false, not, T, ℤ, pos, negsuc, sym, ap, ◌∙◌, true≢false, le_trans, le_of_eq, lt_of_le_of_lt, le_of_lt, lt_irrefl, mod-lt, lt_of_mul-lt-mul_right, div-add-mod', mul-one, mul_right_comm, le_of_mul-le-mul_right, arith, ltb→lt, nltb→le}
 use lib.Arith.{digits_div}
-use lib.Ieee.{Float, nan, inf, fin, binary64, up, down, lt, fits, of_int, round, to_unsigned}
+use lib.Ieee.{Float, nan, inf, fin, binary64, up, down, lt, fits, of_int, to_unsigned}
 use lib.Ieee.Fits.{down_pos}
 use lib.Ieee.Exact.{HasValue}
 use lib.Ieee.Back.{round_whole}

@@ -1,11 +1,10 @@
 -- The casts and roundings to whole numbers keep the order. Assumes nothing.
-use Rattle.std.proofs.Common.{◌≡◌, ℕ, zero, suc, ◌+◌, ◌-◌, ◌*◌, ◌/◌, ◌%◌, ◌^◌, ◌<◌, ◌≤◌, min, Bool, true, false, cond, not, ◌&&◌, ◌||◌, T, eqb, ltb, ℤ, sym, refl, ap, ◌∙◌, subst, zero-le, le_trans, le_of_eq, le_refl, mul-le-mul_right, mod-lt, mul_assoc, mul_comm, div-lt_iff_lt-mul, add-mul, mul-pos, div-add-mod', mul-add, mul_right_comm, le_of_mul-le-mul_right, mul_left_comm, arith, eqb→eq}
-use native.Mathlib.Nat.{min-le_right, zero-div}
-use lib.Ieee.{Float, nan, inf, fin, Format, up, down, round, le, to_unsigned}
-use lib.Ieee.Fits.{down_pos, and_l, and_r}
+use Rattle.std.proofs.Common.{◌≡◌, ℕ, zero, suc, ◌+◌, ◌-◌, ◌*◌, ◌/◌, ◌%◌, ◌^◌, ◌<◌, ◌≤◌, min, true, false, cond, T, eqb, ℤ, sym, refl, ap, ◌∙◌, subst, zero-le, le_trans, le_of_eq, le_refl, mul-le-mul_right, mod-lt, mul_assoc, mul_comm, div-lt_iff_lt-mul, add-mul, mul-pos, div-add-mod', mul_right_comm, le_of_mul-le-mul_right, mul_left_comm, arith, eqb→eq}
+use native.Mathlib.Nat.{zero-div}
+use lib.Ieee.{Float, nan, inf, fin, Format, up, down, le, to_unsigned}
+use lib.Ieee.Fits.{down_pos, and_r}
 use lib.Ieee.Nearest.{div_mono}
 use lib.Ieee.Order.{round_mono}
-use lib.Ieee.Positive.{num, den, den_pos}
 use Rattle.ieee.specs.Casts.{ceil_unsigned, round_away}
 use Rattle.ieee.proofs.Unsigned.{unsigned, le→cross}
 

@@ -1,6 +1,6 @@
 -- What the proofs of `narrow_magnitude` and `narrow` cite. Assumes nothing.
-use Rattle.std.proofs.Common.{◌≡◌, ℕ, zero, suc, ◌+◌, ◌-◌, ◌*◌, ◌/◌, ◌%◌, ◌^◌, ◌<◌, ◌≤◌, Bool, true, false, cond, not, T, leb, ◌⊎◌, ℤ, pos, negsuc, sym, refl, ap, ◌∙◌, subst, inl, inr, le_trans, le_of_eq, le_refl, lt_of_lt_of_le, le_of_suc-le-suc, le-add_right, le_of_lt, lt_irrefl, mul-le-mul_right, mod-lt, mul_assoc, mul_comm, mul-le-mul, add_comm, eq-or-lt_of_le, mul-le-mul_left, mul-lt-mul_of_pos_right, zero-add, mul_right_comm, arith, lit<, lit≤, pow_pos, pow_mono, pow-add, shl_lt, shl_exact}
-use lib.Ieee.{Float, nan, inf, fin, Format, binary32, binary64, up, down, odd, round, div, fits, is_nan, nan_bits, of_fields, of_bits}
+use Rattle.std.proofs.Common.{◌≡◌, ℕ, zero, suc, ◌+◌, ◌-◌, ◌*◌, ◌/◌, ◌%◌, ◌^◌, ◌<◌, ◌≤◌, Bool, false, cond, not, T, ◌⊎◌, pos, sym, refl, ap, ◌∙◌, subst, inl, inr, le_trans, le_of_eq, le_refl, lt_of_lt_of_le, le_of_suc-le-suc, le-add_right, lt_irrefl, mul-le-mul_right, mod-lt, mul-le-mul, add_comm, eq-or-lt_of_le, mul-lt-mul_of_pos_right, zero-add, arith, lit<, lit≤, pow_pos, pow_mono, pow-add, shl_lt, shl_exact}
+use lib.Ieee.{Float, nan, inf, fin, binary32, binary64, up, down, round, div, fits, is_nan, nan_bits, of_fields, of_bits}
 use lib.Ieee.Bits.{nan_bits_is}
 use lib.Bits.{bit_and, and_mask}
 use lib.Ieee.Fits.{down_pos}

@@ -1,5 +1,5 @@
 -- A float compared with a power of two or with zero, and what that says of its casts to whole numbers. Assumes nothing.
-use Rattle.std.proofs.Common.{◌≡◌, ℕ, zero, suc, ◌+◌, ◌-◌, ◌*◌, ◌/◌, ◌%◌, ◌^◌, ◌<◌, ◌≤◌, min, Bool, true, false, not, T, ltb, ℤ, pos, negsuc, ◌-ℤ◌, neg_ℤ, sym, refl, ap, ◌∙◌, subst, zero-le, le_trans, le_of_eq, lt_of_lt_of_le, lt_of_le_of_lt, mod-lt, mod-eq_of_lt, mul-le-mul, lt_of_mul-lt-mul_right, mul-lt-mul_of_pos_right, one-mul, le-div_iff_mul-le, zero-mul, mul-one, mul_right_comm, arith, lit<, lit≤, ltb→lt, lt→ltb, nltb→le, pow_pos, pow_mono, w64, SFits, to_z, of_z}
+use Rattle.std.proofs.Common.{◌≡◌, ℕ, zero, suc, ◌+◌, ◌-◌, ◌*◌, ◌/◌, ◌%◌, ◌^◌, ◌<◌, ◌≤◌, min, Bool, true, false, not, T, ℤ, pos, ◌-ℤ◌, neg_ℤ, sym, refl, ap, ◌∙◌, subst, zero-le, le_of_eq, lt_of_lt_of_le, lt_of_le_of_lt, mod-lt, mul-le-mul, lt_of_mul-lt-mul_right, mul-lt-mul_of_pos_right, one-mul, le-div_iff_mul-le, zero-mul, mul-one, mul_right_comm, arith, lit<, ltb→lt, lt→ltb, nltb→le, pow_pos, pow_mono, w64, SFits, to_z, of_z}
 use native.Mathlib.Nat.{zero-div}
 use lib.IntN.{+ℤ_idl}
 use lib.Ieee.{Float, nan, inf, fin, binary64, up, down, of_bits, to_bits, fits, neg, lt, to_unsigned, to_signed}

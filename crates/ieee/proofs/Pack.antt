@@ -1,15 +1,15 @@
 -- Bit patterns, for either format. A pattern's fields and the value that they stand for (`fields_val`, `read`), and `round` as bits:
 -- the bits of `round f s num den` are the sign, k times the weight of the exponent's field, and the kept number, where k is how many digits are dropped (`written`).
 -- A kept number that rounding has carried up to 2 ^ prec carries into the exponent's field, up to the pattern of an infinity. Assumes nothing.
-use Rattle.std.proofs.Common.{◌≡◌, ℕ, zero, suc, ◌+◌, ◌-◌, ◌*◌, ◌/◌, ◌%◌, ◌^◌, ◌<◌, ◌≤◌, Bool, true, false, cond, not, ◌&&◌, T, eqb, ltb, leb, ◌⊎◌, ℤ, pos, negsuc, sym, refl, ap, ◌∙◌, subst, inl, inr, le_trans, le_of_eq, lt_of_lt_of_le, le_of_suc-le-suc, le-add_right, lt_of_le_of_lt, le_of_lt, add_assoc, lt_irrefl, mul-le-mul_right, mod-eq_of_lt, zero-lt-suc, mul_assoc, suc-mul, mul_comm, div-lt_iff_lt-mul, add-sub_of_le, eq-zero-or-pos, add_comm, eq-or-lt_of_le, mul-le-mul_left, mul-lt-mul_of_pos_right, mul-pos, one-mul, lt_of_not-le, le-div_iff_mul-le, zero-add, mul-one, mul_right_comm, not-le_of_lt, mul_left_comm, arith, le→leb, eqb→eq, ltb→lt, lt→ltb, nltb→le, pow_pos, pow_mono, pow-add, shl_lt}
+use Rattle.std.proofs.Common.{◌≡◌, ℕ, zero, suc, ◌+◌, ◌-◌, ◌*◌, ◌/◌, ◌%◌, ◌^◌, ◌<◌, ◌≤◌, Bool, true, false, cond, not, T, eqb, ltb, leb, ◌⊎◌, pos, sym, refl, ap, ◌∙◌, subst, inl, inr, le_trans, le_of_eq, lt_of_lt_of_le, le-add_right, lt_of_le_of_lt, lt_irrefl, mul-le-mul_right, mod-eq_of_lt, mul_assoc, suc-mul, mul_comm, div-lt_iff_lt-mul, add-sub_of_le, eq-zero-or-pos, eq-or-lt_of_le, mul-lt-mul_of_pos_right, mul-pos, one-mul, lt_of_not-le, le-div_iff_mul-le, zero-add, mul-one, not-le_of_lt, arith, le→leb, eqb→eq, ltb→lt, lt→ltb, nltb→le, pow_pos, pow_mono, pow-add, shl_lt}
 use Prim.Native.Nat.{compare}
 use native.Mathlib.Nat.{add-mod_left, mul-add-mod_self_left, div-div-eq-div-mul, pow-succ'}
-use lib.Dec.{nleb→lt, not_T}
+use lib.Dec.{not_T}
 use lib.Arith.{digits_lt, digits_div, digits_mod, lt→nleb, le→nltb}
 use lib.Ieee.{Float, nan, inf, fin, Format, binary32, binary64, prec, emax, low, up, down, size, odd, units, round, fits, is_nan, hid, ones, top, of_fields, of_bits, to_bits}
 use lib.Ieee.Digits.{size-lt, size-le, size_reaches}
-use lib.Ieee.Fits.{two, reach, two-le_pos, odd-fits, eq→eqb, nearest-le, round_is, kept-lt}
-use lib.Ieee.Bits.{is_true, is_false, cond_no, of_bits-fits, of_bits-to_bits}
+use lib.Ieee.Fits.{two, reach, odd-fits, eq→eqb, nearest-le, round_is}
+use lib.Ieee.Bits.{is_true, is_false, cond_no, of_bits-fits}
 use lib.Ieee.Exact.{HasValue, odd_sign}
 use lib.Ieee.Nearest.{closest, closest_same, nearest-ge}
 use Rattle.ieee.specs.Patterns.{lead, expo}

@@ -1,21 +1,19 @@
 -- What the proofs of `round_magnitude` and `round` cite. Assumes nothing.
-use Rattle.std.proofs.Common.{◌≡◌, ℕ, zero, suc, ◌+◌, ◌-◌, ◌*◌, ◌/◌, ◌%◌, ◌^◌, ◌<◌, ◌≤◌, Bool, true, false, cond, not, T, leb, ◌⊎◌, ℤ, pos, negsuc, sym, refl, ap, ◌∙◌, subst, inl, inr, le_trans, le_of_eq, le_refl, lt_of_lt_of_le, le_of_suc-le-suc, le-add_right, lt_of_le_of_lt, le_of_lt, add_assoc, lt_irrefl, mul-le-mul_right, mod-lt, zero-lt-suc, mul_assoc, mul_comm, div-lt_iff_lt-mul, add-mul, add_comm, mul-le-mul_left, mul-lt-mul_of_pos_right, mul-pos, one-mul, le-div_iff_mul-le, zero-add, mul-one, mul-add, mul_right_comm, div-mul-le_self, mul-div_cancel, mul_left_comm, le-add_left, arith, lit<, lit≤, pow_pos, pow_mono, pow-add, shl_lt, shl_exact}
+use Rattle.std.proofs.Common.{◌≡◌, ℕ, zero, suc, ◌+◌, ◌-◌, ◌*◌, ◌/◌, ◌%◌, ◌^◌, ◌<◌, ◌≤◌, Bool, cond, not, T, ◌⊎◌, sym, refl, ap, ◌∙◌, subst, inl, inr, le_trans, le_of_eq, lt_of_lt_of_le, le_of_suc-le-suc, le-add_right, lt_of_le_of_lt, mul-le-mul_right, mod-lt, zero-lt-suc, mul_assoc, mul_comm, div-lt_iff_lt-mul, add-mul, add_comm, mul-le-mul_left, mul-lt-mul_of_pos_right, mul-pos, one-mul, le-div_iff_mul-le, mul-one, mul_right_comm, div-mul-le_self, mul_left_comm, le-add_left, arith, lit<, lit≤, pow_pos, pow_mono, pow-add, shl_lt, shl_exact}
 use native.Mathlib.Nat.{eq_of_mul-eq-mul_right, pow-succ'}
-use lib.Arith.{digits_div}
-use lib.Pow.{pow-lt}
 use lib.Bits.{bit_and, and_mask}
-use lib.Ieee.{Float, nan, inf, fin, Format, binary32, binary64, prec, emax, low, up, down, odd, units, round, fits, is_nan, nan_bits, hid, of_fields, of_bits}
-use lib.Ieee.Fits.{down_pos, round-fits, two}
+use lib.Ieee.{Float, nan, inf, fin, binary64, up, down, units, round, fits, is_nan, nan_bits, of_fields, of_bits}
+use lib.Ieee.Fits.{down_pos, round-fits}
 use lib.Ieee.Bits.{of_bits-fits, nan_bits_is}
 use lib.Ieee.Nearest.{div_same}
 use lib.Ieee.Exact.{HasValue, units_val, round_exact}
 use lib.Ieee.Back.{round_whole}
 use Rattle.ieee.specs.Casts.{round_away}
 use Rattle.ieee.specs.Patterns.{lead, expo, Rounded}
-use Rattle.ieee.proofs.Unique.{unique, Held, held, digits_lt, zero_exp}
+use Rattle.ieee.proofs.Unique.{unique}
 use Rattle.ieee.proofs.Closest.{div_is}
 use Rattle.ieee.proofs.Pack.{fields, fields_val, pack, round_no_nan}
-use Rattle.ieee.proofs.View.{b, sign, E, t, b_lt, sign_is, is, value, infinite}
+use Rattle.ieee.proofs.View.{b, sign, E, t, b_lt, sign_is, value, infinite}
 
 -- from one fraction to another of the same size
 pub rescale : (x : Float) (s : Bool) (w l num den : ℕ) → 0 < l → num * l ≡ w * den → HasValue x s w l → HasValue x s num den

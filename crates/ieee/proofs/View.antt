@@ -1,8 +1,8 @@
 -- An `f64` that is no NaN, by the fields of its bit pattern b: the sign, the exponent's field b / 2 ^ 52 % 2 ^ 11, and the digits b % 2 ^ 52. Assumes nothing.
-use Rattle.std.proofs.Common.{◌≡◌, ℕ, zero, suc, ◌+◌, ◌-◌, ◌*◌, ◌/◌, ◌%◌, ◌^◌, ◌<◌, ◌≤◌, Bool, true, false, cond, not, T, eqb, leb, sym, refl, ap, ◌∙◌, subst, lt_of_lt_of_le, zero-add, arith, lit≤, leb→le}
+use Rattle.std.proofs.Common.{◌≡◌, ℕ, ◌*◌, ◌/◌, ◌%◌, ◌^◌, ◌<◌, ◌≤◌, Bool, true, false, cond, not, T, eqb, leb, sym, refl, ap, ◌∙◌, subst, arith, leb→le}
 use lib.Dec.{nleb→lt}
 use lib.Pow.{field}
-use lib.Ieee.{Float, nan, inf, fin, binary64, fits, is_nan, of_fields, of_bits, to_bits, ne}
+use lib.Ieee.{Float, nan, inf, fin, binary64, fits, is_nan, of_fields, to_bits, ne}
 use lib.Ieee.Bits.{of_bits-to_bits, to_bits-lt}
 use lib.Ieee.Exact.{HasValue}
 use Rattle.ieee.specs.Patterns.{lead, expo}

@@ -1,5 +1,5 @@
 -- Whole numbers up to 2 ^ 53 as floats: their value, order, casts, sums and products. Assumes nothing.
-use Rattle.std.proofs.Common.{◌≡◌, ℕ, zero, suc, ◌+◌, ◌-◌, ◌*◌, ◌/◌, ◌^◌, ◌<◌, ◌≤◌, min, Bool, true, false, not, T, ltb, ℤ, pos, sym, refl, ap, ◌∙◌, subst, true≢false, le_of_eq, lt_of_le_of_lt, mul-le-mul_right, mul_assoc, mul_comm, mul-lt-mul_of_pos_right, mul-pos, mul-one, mul_right_comm, le_of_mul-le-mul_right, mul_left_comm, arith, lit<, le→leb, ltb→lt, nltb→le, le-ltb, lt-ltb}
+use Rattle.std.proofs.Common.{◌≡◌, ℕ, ◌+◌, ◌-◌, ◌*◌, ◌/◌, ◌^◌, ◌<◌, ◌≤◌, min, Bool, true, false, not, T, ltb, pos, sym, refl, ap, ◌∙◌, true≢false, le_of_eq, lt_of_le_of_lt, mul-le-mul_right, mul_assoc, mul-lt-mul_of_pos_right, mul-one, mul_right_comm, le_of_mul-le-mul_right, arith, lit<, le→leb, ltb→lt, nltb→le, le-ltb, lt-ltb}
 use lib.Arith.{digits_div}
 use lib.Ieee.{Float, nan, inf, fin, binary64, up, down, fits, round, add, mul, of_int, in_float, to_unsigned, to_signed, lt, le}
 use lib.Ieee.Fits.{down_pos, of_int-fits}
