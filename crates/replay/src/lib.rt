@@ -6,10 +6,13 @@
 pub mod lists;
 pub mod tally;
 
-ghost use Rattle.std.specs.Prelude.{◌≡◌, ◌/◌, ◌≤◌, min, ◌++◌, length, drop};
+ghost use Rattle.std.specs.Prelude.{◌≡◌, ◌/◌, ◌≤◌, min, ◌++◌, length, drop, IfOk};
 ghost use Rattle.words.specs.Words.{half_word_at, float32_at};
 ghost use Rattle.replay.specs.Each.{each};
 
+use std::io::Read;
+use std::rt::Files;
+use std::{fs, io};
 pub use words::{
     float_of, float32_of, half_word, low_half, same_bits, same_bits32, signed_bits, word,
 };
@@ -45,40 +48,57 @@ pub enum Long {
     },
 }
 
-// The file of that name, opened to read. Says so where it cannot be, and answers a negative number.
-pub fn opened(path: &[u8]) -> i32 {
-    let fd = os::open_read(path);
-    if fd < 0 {
-        os::fail(path);
+// The file of that name, opened to read. Says so where it cannot be, and answers none.
+pub fn opened<R: Files + Eprint>(rt: &R, path: &str) -> Option<R::File> {
+    match fs::open(rt, path) {
+        Ok(file) => Some(file),
+        Err(error) => {
+            let _ = eprintln!(rt; "{path}: {error}");
+            None
+        }
     }
-    fd
+}
+
+// Reads until `out` is full or the file ends, and answers how many bytes it put at the front of `out`.
+fn read_full(file: &mut impl Read, out: &mut [u8]) -> io::Result<usize>
+    ensures { IfOk result (λ n. n ≤ length out.new) }
+{
+    let mut done = 0;
+    while done < out.len() {
+        let n = file.read(&mut out[done..])?;
+        if n == 0 {
+            break;
+        }
+        done += n;
+    }
+    Ok(done)
 }
 
 // The next short record.
-pub fn next_short(fd: i32) -> Short {
+pub fn next_short(file: &mut impl Read) -> io::Result<Short> {
     let mut b = [0u8; 40];
-    let n = io::read_full(fd, &mut b);
+    let n = read_full(file, &mut b)?;
     if n == 40 {
-        Short::Vector {
+        Ok(Short::Vector {
             op: word(&b, 0),
             a: word(&b, 8),
             b: word(&b, 16),
             c: word(&b, 24),
             expected: word(&b, 32),
-        }
+        })
     } else if n == 0 {
-        Short::End
+        Ok(Short::End)
     } else {
-        Short::Cut
+        Ok(Short::Cut)
     }
 }
 
 // The next long record's head.
-pub fn next_long(fd: i32) -> Long {
+pub fn next_long(file: &mut impl Read) -> io::Result<Long> {
     let mut b = [0u8; 64];
-    let n = io::read_full(fd, &mut b);
+    let n = read_full(file, &mut b)?;
     if n == 64 {
-        Long::Case {
+        Ok(Long::Case {
             op: word(&b, 0),
             a: word(&b, 8),
             b: word(&b, 16),
@@ -87,17 +107,17 @@ pub fn next_long(fd: i32) -> Long {
             y: word(&b, 40),
             z: word(&b, 48),
             n: word(&b, 56),
-        }
+        })
     } else if n == 0 {
-        Long::End
+        Ok(Long::End)
     } else {
-        Long::Cut
+        Ok(Long::Cut)
     }
 }
 
 // Fills `out` with the bytes that follow. False where the file ends before.
-pub fn payload(fd: i32, out: &mut [u8]) -> bool {
-    io::read_full(fd, out) == out.len()
+pub fn payload(file: &mut impl Read, out: &mut [u8]) -> io::Result<bool> {
+    Ok(read_full(file, out)? == out.len())
 }
 
 // How many half words `bytes` has for `out`, a list of `places` places.

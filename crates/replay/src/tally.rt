@@ -1,7 +1,8 @@
 // What a vector program counts, and the lines that it writes. A record that the file does not hold whole is wrong, and the last.
 ghost use Rattle.std.specs.Prelude.{◌≤◌, length};
 
-use libc::STDOUT_FILENO;
+use std::io;
+use std::io::Write;
 
 // The records seen, those that are wrong, those of each operation, and whether there may be more.
 #[derive(Clone, Copy)]
@@ -83,11 +84,9 @@ pub fn cut(t: Tally) -> Tally {
 }
 
 // How many of one operation there were, on a line.
-fn line(name: &[u8], n: u64) {
-    io::write_all(STDOUT_FILENO, name);
-    io::write_all(STDOUT_FILENO, b" ");
-    io::print_decimal(STDOUT_FILENO, n);
-    io::write_all(STDOUT_FILENO, b"\n");
+fn line(rt: &impl Print, name: &[u8], n: u64) -> io::Result<()> {
+    io::writer(rt).write_all(name)?;
+    println!(rt; " {n}")
 }
 
 // The place of the first space from place `from` on, or the end.
@@ -106,26 +105,26 @@ fn space(names: &[u8], from: usize) -> usize
 }
 
 // A line for each of the operations named, with a space between two names.
-fn lines(names: &[u8], ops: [u64; 12]) {
+fn lines(rt: &impl Print, names: &[u8], ops: [u64; 12]) -> io::Result<()> {
     let mut from = 0;
     let mut i = 0;
     while i < 12 {
         if from >= names.len() {
-            return;
+            return Ok(());
         }
         let end = space(names, from);
-        line(&names[from..end], ops[i]);
+        line(rt, &names[from..end], ops[i])?;
         from = end + 1;
         i += 1;
     }
+    Ok(())
 }
 
 // What a program writes: how many of each operation named there were, how many records, and how many of these are wrong.
-pub fn report(names: &[u8], t: Tally) {
+pub fn report(rt: &impl Print, names: &[u8], t: Tally) -> io::Result<()> {
     let ops = t.ops;
-    lines(names, ops);
-    io::print_decimal(STDOUT_FILENO, t.seen);
-    io::write_all(STDOUT_FILENO, b" vectors, ");
-    io::print_decimal(STDOUT_FILENO, t.wrong);
-    io::write_all(STDOUT_FILENO, b" wrong\n");
+    let seen = t.seen;
+    let wrong = t.wrong;
+    lines(rt, names, ops)?;
+    println!(rt; "{seen} vectors, {wrong} wrong")
 }

@@ -1,0 +1,9 @@
+-- What is read lies in `out`. The measure is the places that are left.
+use Rattle.std.proofs.Common.{◌-◌, ◌≤◌, length}
+use Rattle.replay.proofs.read_full.Given as goal
+
+abbrev pub invariant-loop-done : goal.invariant-loop-done
+invariant-loop-done g l = l.done ≤ length l.out
+
+abbrev pub decreases-loop-done : goal.decreases-loop-done
+decreases-loop-done g l = length l.out - l.done
