@@ -4,6 +4,8 @@
 
 use replay::tally::Tally;
 use replay::{Short, tally};
+use std::io;
+use std::io::Read;
 
 // Whether operation `op` gives the answer expected. An operation that there is not gives none.
 fn right(op: u64, a: u64, b: u64, c: u64, expected: u64) -> bool {
@@ -29,39 +31,38 @@ fn right(op: u64, a: u64, b: u64, c: u64, expected: u64) -> bool {
 }
 
 // Takes one record.
-fn one(fd: i32, t: Tally) -> Tally {
-    match replay::next_short(fd) {
-        Short::End => tally::ended(t),
-        Short::Cut => tally::cut(t),
+fn one(file: &mut impl Read, t: Tally) -> io::Result<Tally> {
+    match replay::next_short(file)? {
+        Short::End => Ok(tally::ended(t)),
+        Short::Cut => Ok(tally::cut(t)),
         Short::Vector {
             op,
             a,
             b,
             c,
             expected,
-        } => tally::counted(t, op, right(op, a, b, c, expected)),
+        } => Ok(tally::counted(t, op, right(op, a, b, c, expected))),
     }
 }
 
-fn all(fd: i32) -> Tally {
+fn all(file: &mut impl Read) -> io::Result<Tally> {
     let mut t = tally::start();
     let mut turns = u64::MAX;
     while turns > 0 && t.more {
-        t = one(fd, t);
+        t = one(file, t)?;
         turns -= 1;
     }
-    t
+    Ok(t)
 }
 
-fn main() {
-    let fd = replay::opened(b"vectors");
-    if fd < 0 {
-        return;
-    }
-    let t = all(fd);
-    libc::close(fd);
+fn main(rt: HostRuntime) -> io::Result<()> {
+    let Some(mut file) = replay::opened(&rt, "vectors") else {
+        return Ok(());
+    };
+    let t = all(&mut file)?;
     tally::report(
+        &rt,
         b"to_u64 to_i64 round round_to_i64 ceil_to_u64 max clamp to_f32 to_f64 mul_add",
         t,
-    );
+    )
 }
