@@ -4,6 +4,8 @@
 use modespec::{ChannelLayout, Columns, ModeSpec, SyncPosition};
 use replay::tally::Tally;
 use replay::{Short, tally};
+use std::io;
+use std::io::Read;
 
 fn layout_number(spec: ModeSpec) -> u64 {
     let layout = spec.channel_layout;
@@ -82,36 +84,34 @@ fn right(op: u64, mode: u8, b: u64, c: u64, expected: u64) -> bool {
 }
 
 // Takes one record.
-fn one(fd: i32, t: Tally) -> Tally {
-    match replay::next_short(fd) {
-        Short::End => tally::ended(t),
-        Short::Cut => tally::cut(t),
+fn one(file: &mut impl Read, t: Tally) -> io::Result<Tally> {
+    match replay::next_short(file)? {
+        Short::End => Ok(tally::ended(t)),
+        Short::Cut => Ok(tally::cut(t)),
         Short::Vector {
             op,
             a,
             b,
             c,
             expected,
-        } => tally::counted(t, op, a < 16 && right(op, a as u8, b, c, expected)),
+        } => Ok(tally::counted(t, op, a < 16 && right(op, a as u8, b, c, expected))),
     }
 }
 
-fn all(fd: i32) -> Tally {
+fn all(file: &mut impl Read) -> io::Result<Tally> {
     let mut t = tally::start();
     let mut turns = u64::MAX;
     while turns > 0 && t.more {
-        t = one(fd, t);
+        t = one(file, t)?;
         turns -= 1;
     }
-    t
+    Ok(t)
 }
 
-fn main() {
-    let fd = replay::opened(b"vectors");
-    if fd < 0 {
-        return;
-    }
-    let t = all(fd);
-    libc::close(fd);
-    tally::report(b"", t);
+fn main(rt: HostRuntime) -> io::Result<()> {
+    let Some(mut file) = replay::opened(&rt, "vectors") else {
+        return Ok(());
+    };
+    let t = all(&mut file)?;
+    tally::report(&rt, b"", t)
 }
