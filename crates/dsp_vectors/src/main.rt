@@ -10,6 +10,8 @@ ghost use Rattle.std.specs.Prelude.{◌≡◌, ◌+◌, ◌≤◌, length};
 use probe::{ProbeAnswer, WindowAnswer};
 use replay::tally::Tally;
 use replay::{Long, tally};
+use std::io;
+use std::io::Read;
 
 // The pattern that number i of a window must have, where the real parts start at place `at`.
 fn wanted(bytes: &[u8], at: usize, i: usize) -> u32
@@ -83,29 +85,36 @@ fn right(op: u64, a: u64, x: u64, y: u64, bytes: &[u8]) -> bool {
 }
 
 // Reads the payload of a record into `bytes`, and says whether its answer is right.
-fn answered(fd: i32, op: u64, a: u64, x: u64, y: u64, bytes: &mut [u8]) -> bool {
-    if replay::payload(fd, bytes) {
-        right(op, a, x, y, bytes)
+fn answered(
+    file: &mut impl Read,
+    op: u64,
+    a: u64,
+    x: u64,
+    y: u64,
+    bytes: &mut [u8],
+) -> io::Result<bool> {
+    if replay::payload(file, bytes)? {
+        Ok(right(op, a, x, y, bytes))
     } else {
-        false
+        Ok(false)
     }
 }
 
 // The same of a record of n bytes. No record is longer than 2,048.
-fn record_right(fd: i32, op: u64, a: u64, x: u64, y: u64, n: u64) -> bool {
+fn record_right(file: &mut impl Read, op: u64, a: u64, x: u64, y: u64, n: u64) -> io::Result<bool> {
     if n > 2048 {
-        return false;
+        return Ok(false);
     }
     let size: usize = n as usize;
     let mut bytes = [0u8; 2048];
-    answered(fd, op, a, x, y, &mut bytes[..size])
+    answered(file, op, a, x, y, &mut bytes[..size])
 }
 
 // Takes one record.
-fn one(fd: i32, t: Tally) -> Tally {
-    match replay::next_long(fd) {
-        Long::End => tally::ended(t),
-        Long::Cut => tally::cut(t),
+fn one(file: &mut impl Read, t: Tally) -> io::Result<Tally> {
+    match replay::next_long(file)? {
+        Long::End => Ok(tally::ended(t)),
+        Long::Cut => Ok(tally::cut(t)),
         Long::Case {
             op,
             a,
@@ -115,26 +124,31 @@ fn one(fd: i32, t: Tally) -> Tally {
             y,
             z: _,
             n,
-        } => tally::counted(t, op, record_right(fd, op, a, x, y, n)),
+        } => {
+            let right = record_right(file, op, a, x, y, n)?;
+            Ok(tally::counted(t, op, right))
+        }
     }
 }
 
-fn all(fd: i32) -> Tally {
+fn all(file: &mut impl Read) -> io::Result<Tally> {
     let mut t = tally::start();
     let mut turns = u64::MAX;
     while turns > 0 && t.more {
-        t = one(fd, t);
+        t = one(file, t)?;
         turns -= 1;
     }
-    t
+    Ok(t)
 }
 
-fn main() {
-    let fd = replay::opened(b"vectors");
-    if fd < 0 {
-        return;
-    }
-    let t = all(fd);
-    libc::close(fd);
-    tally::report(b"goertzel_1500 goertzel_2300 sync_window has_sync_at", t);
+fn main(rt: HostRuntime) -> io::Result<()> {
+    let Some(mut file) = replay::opened(&rt, "vectors") else {
+        return Ok(());
+    };
+    let t = all(&mut file)?;
+    tally::report(
+        &rt,
+        b"goertzel_1500 goertzel_2300 sync_window has_sync_at",
+        t,
+    )
 }
