@@ -9,6 +9,8 @@ ghost use Rattle.std.specs.Prelude.{◌≤◌, length};
 use pulse::{EdgeAnswer, QualityAnswer, WindowAnswer};
 use replay::tally::Tally;
 use replay::{Long, tally};
+use std::io;
+use std::io::Read;
 
 // Puts `value` into `out` from place `from` up to place `end`.
 fn repeat(out: &mut [u32], from: usize, end: usize, value: u32)
@@ -96,7 +98,7 @@ fn payload_right(
 
 // Reads the payload of a record into `bytes`, and says whether its answer is right.
 fn answered(
-    fd: i32,
+    file: &mut impl Read,
     op: u64,
     a: u64,
     b: u64,
@@ -106,19 +108,19 @@ fn answered(
     z: u64,
     bytes: &mut [u8],
     counts: &mut [u32],
-) -> bool {
-    if replay::payload(fd, bytes) {
-        payload_right(op, a, b, c, x, y, z, bytes, counts)
+) -> io::Result<bool> {
+    if replay::payload(file, bytes)? {
+        Ok(payload_right(op, a, b, c, x, y, z, bytes, counts))
     } else {
-        false
+        Ok(false)
     }
 }
 
 // Takes one record. One that is cut short, or longer than the memory for it, is wrong and the last.
-fn one(fd: i32, t: Tally, bytes: &mut [u8], counts: &mut [u32]) -> Tally {
-    match replay::next_long(fd) {
-        Long::End => tally::ended(t),
-        Long::Cut => tally::cut(t),
+fn one(file: &mut impl Read, t: Tally, bytes: &mut [u8], counts: &mut [u32]) -> io::Result<Tally> {
+    match replay::next_long(file)? {
+        Long::End => Ok(tally::ended(t)),
+        Long::Cut => Ok(tally::cut(t)),
         Long::Case {
             op,
             a,
@@ -131,40 +133,43 @@ fn one(fd: i32, t: Tally, bytes: &mut [u8], counts: &mut [u32]) -> Tally {
         } => {
             let size: usize = n as usize;
             if size > bytes.len() {
-                return tally::cut(t);
+                return Ok(tally::cut(t));
             }
-            tally::counted(
-                t,
-                op,
-                answered(fd, op, a, b, c, x, y, z, &mut bytes[..size], counts),
-            )
+            let right = answered(file, op, a, b, c, x, y, z, &mut bytes[..size], counts)?;
+            Ok(tally::counted(t, op, right))
         }
     }
 }
 
-fn all(fd: i32, bytes: &mut [u8], counts: &mut [u32]) -> Tally {
+fn all(file: &mut impl Read, bytes: &mut [u8], counts: &mut [u32]) -> io::Result<Tally> {
     let mut t = tally::start();
     let mut turns = u64::MAX;
     while turns > 0 && t.more {
-        t = one(fd, t, bytes, counts);
+        t = one(file, t, bytes, counts)?;
         turns -= 1;
     }
-    t
+    Ok(t)
 }
 
 // Arrays of these lengths are lent as such, and go on as slices from here.
-fn replayed(fd: i32, bytes: &mut [u8; 262144], counts: &mut [u32; 65536]) -> Tally {
-    all(fd, bytes, counts)
+fn replayed(
+    file: &mut impl Read,
+    bytes: &mut [u8; 262144],
+    counts: &mut [u32; 65536],
+) -> io::Result<Tally> {
+    all(file, bytes, counts)
 }
 
-fn main() {
-    let fd = replay::opened(b"vectors");
-    if fd < 0 {
-        return;
-    }
+fn main(rt: HostRuntime) -> io::Result<()> {
+    let Some(mut file) = replay::opened(&rt, "vectors") else {
+        return Ok(());
+    };
     let mut bytes = [0u8; 262144];
     let mut counts = [0u32; 65536];
-    let t = replayed(fd, &mut bytes, &mut counts);
-    libc::close(fd);
-    tally::report(b"best_pulse_window sync_quality falling_edge_from_x_acc", t);
+    let t = replayed(&mut file, &mut bytes, &mut counts)?;
+    tally::report(
+        &rt,
+        b"best_pulse_window sync_quality falling_edge_from_x_acc",
+        t,
+    )
 }
