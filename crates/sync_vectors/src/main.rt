@@ -5,6 +5,8 @@
 use hough::SlantDeg;
 use replay::tally::Tally;
 use replay::{Long, tally};
+use std::io;
+use std::io::Read;
 use sync::{SyncAnswer, SyncResult};
 
 fn slant_right(slant: SlantDeg, bits: u64) -> bool {
@@ -51,7 +53,7 @@ fn call_right(
 
 // Reads the run lengths of a record into `runs`, spreads them over `flags`, and says whether the answer is right.
 fn answered(
-    fd: i32,
+    file: &mut impl Read,
     a: u64,
     b: u64,
     c: u64,
@@ -62,12 +64,12 @@ fn answered(
     flags: &mut [u8],
     img: &mut [u8],
     votes: &mut [u16],
-) -> bool {
-    if replay::payload(fd, runs) {
+) -> io::Result<bool> {
+    if replay::payload(file, runs)? {
         let n = replay::flags(runs, flags);
-        call_right(&flags[..n], a, b, c, x, y, z, img, votes)
+        Ok(call_right(&flags[..n], a, b, c, x, y, z, img, votes))
     } else {
-        false
+        Ok(false)
     }
 }
 
@@ -78,16 +80,16 @@ fn kind(slant: u64) -> u64 {
 
 // Takes one record. One that is cut short, or longer than the memory for it, is wrong and the last.
 fn one(
-    fd: i32,
+    file: &mut impl Read,
     t: Tally,
     runs: &mut [u8],
     flags: &mut [u8],
     img: &mut [u8],
     votes: &mut [u16],
-) -> Tally {
-    match replay::next_long(fd) {
-        Long::End => tally::ended(t),
-        Long::Cut => tally::cut(t),
+) -> io::Result<Tally> {
+    match replay::next_long(file)? {
+        Long::End => Ok(tally::ended(t)),
+        Long::Cut => Ok(tally::cut(t)),
         Long::Case {
             op: _,
             a,
@@ -100,49 +102,50 @@ fn one(
         } => {
             let size: usize = n as usize;
             if size > runs.len() {
-                return tally::cut(t);
+                return Ok(tally::cut(t));
             }
-            tally::counted(
-                t,
-                kind(y),
-                answered(fd, a, b, c, x, y, z, &mut runs[..size], flags, img, votes),
-            )
+            let right = answered(file, a, b, c, x, y, z, &mut runs[..size], flags, img, votes)?;
+            Ok(tally::counted(t, kind(y), right))
         }
     }
 }
 
-fn all(fd: i32, runs: &mut [u8], flags: &mut [u8], img: &mut [u8], votes: &mut [u16]) -> Tally {
+fn all(
+    file: &mut impl Read,
+    runs: &mut [u8],
+    flags: &mut [u8],
+    img: &mut [u8],
+    votes: &mut [u16],
+) -> io::Result<Tally> {
     let mut t = tally::start();
     let mut turns = u64::MAX;
     while turns > 0 && t.more {
-        t = one(fd, t, runs, flags, img, votes);
+        t = one(file, t, runs, flags, img, votes)?;
         turns -= 1;
     }
-    t
+    Ok(t)
 }
 
 // Arrays of these lengths are lent as such, and go on as slices from here.
 fn replayed(
-    fd: i32,
+    file: &mut impl Read,
     runs: &mut [u8; 262144],
     flags: &mut [u8; 1000000],
     img: &mut [u8; 441000],
     votes: &mut [u16; 144000],
-) -> Tally {
-    all(fd, runs, flags, img, votes)
+) -> io::Result<Tally> {
+    all(file, runs, flags, img, votes)
 }
 
 // The work memory starts with anything.
-fn main() {
-    let fd = replay::opened(b"vectors");
-    if fd < 0 {
-        return;
-    }
+fn main(rt: HostRuntime) -> io::Result<()> {
+    let Some(mut file) = replay::opened(&rt, "vectors") else {
+        return Ok(());
+    };
     let mut runs = [0u8; 262144];
     let mut flags = [0u8; 1000000];
     let mut img = [7u8; 441000];
     let mut votes = [7u16; 144000];
-    let t = replayed(fd, &mut runs, &mut flags, &mut img, &mut votes);
-    libc::close(fd);
-    tally::report(b"no_slant slant", t);
+    let t = replayed(&mut file, &mut runs, &mut flags, &mut img, &mut votes)?;
+    tally::report(&rt, b"no_slant slant", t)
 }
