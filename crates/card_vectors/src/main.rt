@@ -12,6 +12,8 @@ ghost use Rattle.std.specs.Prelude.{◌≤◌, length};
 use card::{Card, CardRead, Written};
 use replay::tally::Tally;
 use replay::{Long, tally};
+use std::io;
+use std::io::Read;
 
 // ---- fields
 
@@ -191,19 +193,19 @@ fn class(op: u64, x: u64) -> u64 {
     }
 }
 
-fn answered(fd: i32, op: u64, a: u64, x: u64, payload: &mut [u8]) -> bool {
-    if replay::payload(fd, payload) {
-        right(op, a, x, payload)
+fn answered(file: &mut impl Read, op: u64, a: u64, x: u64, payload: &mut [u8]) -> io::Result<bool> {
+    if replay::payload(file, payload)? {
+        Ok(right(op, a, x, payload))
     } else {
-        false
+        Ok(false)
     }
 }
 
 // Takes one record. One that is cut short, or longer than the memory for it, is wrong and the last.
-fn one(fd: i32, t: Tally, bytes: &mut [u8]) -> Tally {
-    match replay::next_long(fd) {
-        Long::End => tally::ended(t),
-        Long::Cut => tally::cut(t),
+fn one(file: &mut impl Read, t: Tally, bytes: &mut [u8]) -> io::Result<Tally> {
+    match replay::next_long(file)? {
+        Long::End => Ok(tally::ended(t)),
+        Long::Cut => Ok(tally::cut(t)),
         Long::Case {
             op,
             a,
@@ -216,33 +218,33 @@ fn one(fd: i32, t: Tally, bytes: &mut [u8]) -> Tally {
         } => {
             let size: usize = n as usize;
             if size > bytes.len() {
-                return tally::cut(t);
+                return Ok(tally::cut(t));
             }
-            tally::counted(t, class(op, x), answered(fd, op, a, x, &mut bytes[..size]))
+            let right = answered(file, op, a, x, &mut bytes[..size])?;
+            Ok(tally::counted(t, class(op, x), right))
         }
     }
 }
 
-fn all(fd: i32, bytes: &mut [u8]) -> Tally {
+fn all(file: &mut impl Read, bytes: &mut [u8]) -> io::Result<Tally> {
     let mut t = tally::start();
     let mut turns = u64::MAX;
     while turns > 0 && t.more {
-        t = one(fd, t, bytes);
+        t = one(file, t, bytes)?;
         turns -= 1;
     }
-    t
+    Ok(t)
 }
 
-fn main() {
-    let fd = replay::opened(b"vectors");
-    if fd < 0 {
-        return;
-    }
+fn main(rt: HostRuntime) -> io::Result<()> {
+    let Some(mut file) = replay::opened(&rt, "vectors") else {
+        return Ok(());
+    };
     let mut bytes = [0u8; 512];
-    let t = all(fd, &mut bytes);
-    libc::close(fd);
+    let t = all(&mut file, &mut bytes)?;
     tally::report(
+        &rt,
         b"read read_refused_12 read_refused_13 read_refused_14 byte_changed write write_refused_12 write_refused_14",
         t,
-    );
+    )
 }
