@@ -14,6 +14,9 @@ use first_line::FirstLine;
 use modespec::ModeSpec;
 use replay::tally::Tally;
 use replay::{Long, lists, tally};
+use std::io;
+use std::io::Read;
+use std::rt::Files;
 use sync_start::{Evaluation, Located};
 
 // A record without its payload.
@@ -251,22 +254,22 @@ fn right(h: Head, bytes: &[u8]) -> bool {
 }
 
 // Reads the payload of a record into `bytes`, and says whether its answer is right.
-fn answered(fd: i32, h: Head, bytes: &mut [u8]) -> bool {
-    if replay::payload(fd, bytes) {
-        right(h, bytes)
+fn answered(file: &mut impl Read, h: Head, bytes: &mut [u8]) -> io::Result<bool> {
+    if replay::payload(file, bytes)? {
+        Ok(right(h, bytes))
     } else {
-        false
+        Ok(false)
     }
 }
 
 // The same of a record of n bytes. No record is longer than 8,192.
-fn record_right(fd: i32, h: Head, n: u64) -> bool {
+fn record_right(file: &mut impl Read, h: Head, n: u64) -> io::Result<bool> {
     if n > 8192 {
-        return false;
+        return Ok(false);
     }
     let size: usize = n as usize;
     let mut bytes = [0u8; 8192];
-    answered(fd, h, &mut bytes[..size])
+    answered(file, h, &mut bytes[..size])
 }
 
 fn mode_of(a: u64) -> u8 {
@@ -274,10 +277,10 @@ fn mode_of(a: u64) -> u8 {
 }
 
 // Takes one record.
-fn one(fd: i32, t: Tally) -> Tally {
-    match replay::next_long(fd) {
-        Long::End => tally::ended(t),
-        Long::Cut => tally::cut(t),
+fn one(file: &mut impl Read, t: Tally) -> io::Result<Tally> {
+    match replay::next_long(file)? {
+        Long::End => Ok(tally::ended(t)),
+        Long::Cut => Ok(tally::cut(t)),
         Long::Case {
             op,
             a,
@@ -297,34 +300,32 @@ fn one(fd: i32, t: Tally) -> Tally {
                 y,
                 z,
             };
-            tally::counted(t, op, record_right(fd, h, n))
+            let right = record_right(file, h, n)?;
+            Ok(tally::counted(t, op, right))
         }
     }
 }
 
-fn all(fd: i32, before: Tally) -> Tally {
+fn all(file: &mut impl Read, before: Tally) -> io::Result<Tally> {
     let mut t = tally::again(before);
     let mut turns = u64::MAX;
     while turns > 0 && t.more {
-        t = one(fd, t);
+        t = one(file, t)?;
         turns -= 1;
     }
-    t
+    Ok(t)
 }
 
 // The tally with the records of a file more. A file that is not there is wrong.
-fn with_file(path: &[u8], t: Tally) -> Tally {
-    let fd = replay::opened(path);
-    if fd < 0 {
-        return tally::cut(t);
+fn with_file(rt: &(impl Files + Eprint), path: &str, t: Tally) -> io::Result<Tally> {
+    match replay::opened(rt, path) {
+        None => Ok(tally::cut(t)),
+        Some(mut file) => all(&mut file, t),
     }
-    let after = all(fd, t);
-    libc::close(fd);
-    after
 }
 
-fn main() {
-    let searched = with_file(b"vectors", tally::start());
-    let t = with_file(b"inner", searched);
-    tally::report(b"evaluate search first_pulsed_line", t);
+fn main(rt: HostRuntime) -> io::Result<()> {
+    let searched = with_file(&rt, "vectors", tally::start())?;
+    let t = with_file(&rt, "inner", searched)?;
+    tally::report(&rt, b"evaluate search first_pulsed_line", t)
 }
