@@ -1,0 +1,73 @@
+-- Answers of the goals that the check leaves.
+use mathlib.Core.Path.{◌≡◌, sym, ◌∙◌}
+use mathlib.Core.List.{List}
+use Prim.Native.Nat.{ℕ, ◌≤◌, ◌<◌, ◌+◌}
+use native.Mathlib.Omega.{arith}
+use lib.ListN.{length, get_or, set}
+use Rattle.window_fold.specs.Steps.{bit_at, added_to}
+use Rattle.columns.proofs.Lists.{Mixed, mixed_none, mixed_at, mixed_more, mixed_all}
+use Rattle.window_fold.proofs.Folding.{bit_small, added_length, added_at}
+use Rattle.window_fold.proofs.add_bits.Goals as goal
+
+module _ (window places old : List ℕ) (n : length old ≡ 700) where
+  sizes : length old ≡ length (added_to window places old)
+  sizes = n ∙ sym (added_length window places old)
+
+  start : Mixed (added_to window places old) old 0 old
+  start = mixed_none (added_to window places old) old sizes
+
+  module _ (x : ℕ) (h : x < 700) (l : List ℕ) (m : Mixed (added_to window places old) old x l) where
+    within : x < length (added_to window places old)
+    within = rw (added_length window places old) h
+
+    now-at : get_or l x 0 ≡ get_or old x 0
+    now-at = mixed_at (added_to window places old) old l x 0 sizes within m
+
+    counted : (v : ℕ) → v ≡ bit_at window (get_or places x 0) → Mixed (added_to window places old) old (x + 1) (set l x (get_or l x 0 + v))
+    counted v e =
+        mixed_more (added_to window places old) old l x (get_or l x 0 + v) 0 sizes within m
+        (rw (now-at, e) (sym (added_at window places old x h)))
+
+  done : (x : ℕ) (l : List ℕ) → 700 ≤ x → Mixed (added_to window places old) old x l → l ≡ added_to window places old
+  done x l h m = mixed_all (added_to window places old) old l x (rw (added_length window places old) h) m
+
+pub loop-x-init : goal.loop-x-init
+loop-x-init c = (omega arith, start _ _ _ c.requires.0)
+
+pub offset_bounds-places-x : goal.offset_bounds-places-x
+offset_bounds-places-x c = omega arith
+
+pub bounds-places-x : goal.bounds-places-x
+bounds-places-x c = omega arith
+
+pub bit_at-more-requires : goal.bit_at-more-requires
+bit_at-more-requires c = tt
+
+pub offset_bounds-counts-x : goal.offset_bounds-counts-x
+offset_bounds-counts-x c = omega arith
+
+pub bounds-counts-x : goal.bounds-counts-x
+bounds-counts-x c = omega arith
+
+pub overflow_add-counts : goal.overflow_add-counts
+overflow_add-counts c =
+    let e : get_or c.loop-x.counts c.loop-x.x 0 ≡ get_or c.args.counts.now c.loop-x.x 0 =
+    now-at c.args.window.now c.args.places.now c.args.counts.now c.requires.0 c.loop-x.x (omega arith) c.loop-x.counts c.loop-x.invariant.1 in
+    let b : c.bit_at-more.result ≤ 1 = rw c.bit_at-more.ensures (bit_small _ _) in
+    omega (arith, c.requires.1 c.loop-x.x (omega arith))
+
+pub bounds-counts-x-in-loop-x : goal.bounds-counts-x-in-loop-x
+bounds-counts-x-in-loop-x c = omega arith
+
+pub overflow_add-x : goal.overflow_add-x
+overflow_add-x c = omega arith
+
+pub loop-x-smaller : goal.loop-x-smaller
+loop-x-smaller c = omega arith
+
+pub loop-x-preserved : goal.loop-x-preserved
+loop-x-preserved c =
+    (omega arith, counted c.args.window.now c.args.places.now c.args.counts.now c.requires.0 c.loop-x.x (omega arith) c.loop-x.counts c.loop-x.invariant.1 _ c.bit_at-more.ensures)
+
+pub returns : goal.returns
+returns c = done _ _ _ c.requires.0 c.loop-x.x _ (omega arith) c.loop-x.invariant.1
