@@ -7,16 +7,8 @@ use lib.Signed.{le_z}
 use lib.IntN.{ℤ, pos, negsuc}
 use mir.ValLaws.{to_z-of_z}
 use mir.Syntax.{w64}
-use borrow.Author.Rules.{rules}
 use Rattle.card.proofs.Parts.{near_of}
-use Rattle.card.proofs.check.is_near.Statement.{statement}
-use Rattle.card.proofs.check.is_near.Tie as tie
+use Rattle.card.proofs.check.is_near.Goals as goal
 
-sub-result : tie.Need-overflow-sub-result
-sub-result c = search rules
-
-returns : tie.Need-returns
+pub returns : goal.returns
 returns c = ap (λ (z : ℤ). le_z (negsuc (2 ^ 62 - 1)) z && le_z z (pos (2 ^ 62))) (to_z-of_z w64 c.args.skip c.ranges.skip) ∙ near_of c.args.skip
-
-pub is_near_spec : {M : Type 1} → statement M
-is_near_spec = tie.close (tie.spec sub-result returns)

@@ -3,12 +3,8 @@
 use mathlib.Core.Path.{refl}
 use lib.Ieee.{of_bits, div}
 use Rattle.card.specs.Card.{positive}
-use Rattle.card.proofs.check.is_positive.Statement.{statement}
-use Rattle.card.proofs.check.is_positive.Tie as tie
+use Rattle.card.proofs.check.is_positive.Goals as goal
 
-returns : tie.Need-returns
+pub returns : goal.returns
 unfolding positive of_bits div
 returns c = refl
-
-pub is_positive_spec : {M : Type 1} → statement M
-is_positive_spec = tie.close (tie.spec returns)

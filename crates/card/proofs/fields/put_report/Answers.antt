@@ -1,0 +1,18 @@
+-- `card::fields::put_report` meets its contract. Five numbers, one behind the other.
+-- Assumes nothing.
+use native.Mathlib.Omega.{arith}
+use mathlib.Core.Path.{ap, ◌∙◌}
+use lib.Seq.{sets}
+use mir.ValLaws.{to_z-of_z}
+use mir.Syntax.{w64}
+use Rattle.words.specs.Words.{bits_of}
+use Rattle.words.proofs.Storing.{nothing, number}
+use Rattle.card.proofs.Parts.{report_of_lem}
+use Rattle.card.proofs.fields.put_report.Goals as goal
+
+pub returns : goal.returns
+returns c =
+    let a = c.args.card in
+    let skip = to_z-of_z w64 a.skip (record { sfits = omega arith }) in
+    (number 4 _ (number 8 _ (number 1 _ (number 8 _ (number 4 _ (nothing _ 31) c.put.ensures) c.put-2.ensures) c.put-3.ensures) c.put-4.ensures) c.put-5.ensures).is
+    ∙ ap (sets c.args.out.now 31) (report_of_lem a _ _ _ _ c.float32_bits.ensures c.float_bits.ensures (c.signed_bits.ensures ∙ ap bits_of skip) c.float32_bits-2.ensures)
