@@ -14,7 +14,6 @@ use Rattle.modespec.specs.ModeSpec.{spec_of}
 use Rattle.modespec.specs.Sizes.{radio_lines, image_probes}
 use Rattle.modespec.proofs.Rows.{image_lines_lem, radio_lines_lem, line_width_lem}
 use Rattle.hough.specs.declared.Passes.{Passes}
-use Rattle.hough.specs.declared.SlantDeg.TheVariants as SlantDeg
 use Rattle.hough.specs.Passes.{passes_of}
 use Rattle.pulse.specs.Sums.{largest, first_with}
 use Rattle.pulse.specs.Edge.{fall_at, slipped, edge_of}

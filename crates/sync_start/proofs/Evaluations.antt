@@ -9,7 +9,6 @@ use Rattle.modespec.specs.Sizes.{robot, line_samples, window_lines, pulse_column
 use Rattle.first_line.specs.declared.FirstLine.{FirstLine}
 use Rattle.first_line.specs.declared.FirstLine.TheVariants.{Missing, Line}
 use Rattle.sync_start.specs.declared.Evaluation.{Evaluation}
-use Rattle.sync_start.specs.declared.Located.{Located}
 use Rattle.sync_start.specs.declared.Located.TheVariants.{Nowhere, At}
 use Rattle.sync_start.specs.Evaluate.{counts_of, line_in, column_of, windows_of, line_start, even_start, position_of, located_by, window_quality, streak_after, start_quality, locate_in, locate_of, reads_by, reads_in, evaluation_by, taken_at, known_at, evaluation_of, reads_of, parity_reads}
 use Rattle.window_fold.specs.Fold.{fold_of}
