@@ -1,17 +1,17 @@
 -- Laws of an image that is drawn row by row. Assumes nothing.
-use mathlib.Core.Path.{◌≡◌, refl, ap, sym, ◌∙◌}
+use mathlib.Core.Path.{◌≡◌, refl, ap, ◌∙◌}
 use mathlib.Core.List.{List}
 use Prim.Native.Nat.{ℕ, ◌≤◌, ◌<◌, ◌+◌, ◌*◌}
 use native.Mathlib.Nat.{not-suc-le-zero}
 use native.Mathlib.Omega.{arith}
-use lib.ListN.{length, get_or, set, drop, length-set}
+use lib.ListN.{length, get_or, set, length-set}
 use lib.Ieee.{Float, nan}
 use lib.Seq.{get_or-set_same, get_or-set_other, drop-set-lt}
 use borrow.Author.Count.{below_more}
 use Rattle.columns.specs.Columns.{list_to, column_part}
 use Rattle.columns.proofs.Lists.{get_d_list}
 use Rattle.hough.specs.Pass.{seconds_at}
-use Rattle.hough.specs.Steps.{seconds_by, RowDrawn, Shows, Drawn}
+use Rattle.hough.specs.Steps.{seconds_by, RowDrawn, Drawn}
 
 -- the seconds by the table are those of the definition
 pub seconds_at_lem : (line : Float) (w x y : ℕ) (parts : List Float) → parts ≡ list_to (column_part w) 700 → x < 700 → seconds_by line (get_or parts x nan) y ≡ seconds_at line w x y

@@ -1,0 +1,13 @@
+-- `hough::votes::vote_rows` meets its contract. The loop's invariant: the votes of the rows passed are counted. Assumes nothing.
+use mathlib.Core.Path.{◌≡◌}
+use Prim.Native.Nat.{◌≤◌, ◌-◌}
+use lib.ListN.{length}
+use Rattle.hough.specs.Steps.{tally_of, counted_all, shown_all}
+use Rattle.hough.proofs.votes.vote_rows.Given as goal
+
+abbrev pub invariant-loop-y : goal.invariant-loop-y
+invariant-loop-y l =
+    (l.y ≤ l.n) × (length l.votes ≡ length l.initial.votes) × (tally_of l.votes l.best ≡ counted_all (tally_of l.initial.votes l.initial.best) (shown_all l.img l.w l.y))
+
+abbrev pub decreases-loop-y : goal.decreases-loop-y
+decreases-loop-y l = l.n - l.y
