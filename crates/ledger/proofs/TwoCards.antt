@@ -21,7 +21,7 @@ use Rattle.session.proofs.Demand3.{same_point}
 use Rattle.card.specs.declared.Card.{Card}
 use Rattle.ledger.specs.declared.SessionCard.TheVariants.{Of, Refused}
 use Rattle.ledger.specs.Ledger.{session_card}
-use Rattle.ledger.specs.Entry.{Entry, Ledger, stage_entry, entry_less, card_ledger, point_ledger, ledger_less}
+use Rattle.ledger.specs.Entry.{Entry, stage_entry, entry_less, card_ledger, point_ledger, ledger_less}
 use Rattle.ledger.specs.Back.{CardBack}
 use Rattle.ledger.proofs.ReadsBack.{session_card_lem, no_card_lem}
 

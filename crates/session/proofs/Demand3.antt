@@ -2,7 +2,7 @@
 -- and two lists with the same flags taken and the same parity samples end in the same point, less the anchors.
 -- Assumes nothing.
 use mathlib.Core.Path.{◌≡◌, refl, sym, ◌∙◌, ap, ap₂, subst}
-use mathlib.Core.Bool.{true, false, false≢true}
+use mathlib.Core.Bool.{false, false≢true}
 use mathlib.Core.List.{List, ◌∷◌, Memᴰ}
 use Prim.Native.Nat.{ℕ}
 use borrow.Author.Tests.{ne_eqb}

@@ -2,15 +2,13 @@
 -- Assumes nothing.
 use mathlib.Core.Path.{◌≡◌, refl, sym, ◌∙◌, ap, subst⁻¹}
 use mathlib.Core.Bool.{Bool, true, false, false≢true, cond}
-use mathlib.Core.List.{List, [], ◌∷◌}
+use mathlib.Core.List.{List}
 use Prim.Native.Nat.{ℕ, ◌+◌, ◌-◌, ◌*◌, ◌/◌, ◌≤◌, ◌<◌, ◌^◌}
 use native.Mathlib.Omega.{arith}
 use lib.ListN.{length, take, drop}
 use lib.Seq.{length-take-le, take-take}
 use lib.Dec.{eqb}
 use lib.Ieee.{Float}
-use types.Run.{OneOf, miss}
-use denote.Enum.Declared.{tag_of}
 use borrow.Author.Tests.{eq-eqb, ne_eqb}
 use Rattle.modespec.specs.ModeSpec.{spec_of}
 use Rattle.hough.specs.Memory.{cleared}
@@ -25,7 +23,6 @@ use Rattle.sync_start.proofs.Evaluations.{streak_step, other_modes, position_sma
 use Rattle.plain.specs.declared.Start.{Start}
 use Rattle.plain.specs.declared.Phase.{Phase}
 use Rattle.plain.specs.declared.Phase.TheVariants.{Searching, Collecting, Reported, Unfound, CutShort}
-use Rattle.plain.specs.contracts.Phase as phase
 use Rattle.plain.specs.Plain.{Plain, evaluating_by, reporting_by, Setup, window_of, picture_of, ended_phase, due_at, full_at, flag_of, found_phase, stir_at, evaluating, reporting, ending, end_of}
 use Rattle.session.specs.declared.Session.{Session}
 use Rattle.session.specs.Hold.{setup_of, plain_of, position_of, Sane, work_after}
@@ -88,8 +85,8 @@ judge_idle : (s : Session) (st : List ℕ) (sm : List Float) → s.streak ≤ s.
 judge_idle s st sm h e =
     record { kept = same_fields s; plain = λ known _. sym (e known); evaluations = omega arith; streak = h; near = λ n. n }
 
-not_searching : (h : Phase) → OneOf (1 ∷ 2 ∷ 3 ∷ 4 ∷ []) (tag_of phase.the_type h) → (p : Plain) → evaluating_by h p ≡ p
-not_searching Searching k p = absurd (miss (1 ∷ 2 ∷ 3 ∷ 4 ∷ []) 0 tt k)
+not_searching : (h : Phase) → (h ≡ Searching → ⊥) → (p : Plain) → evaluating_by h p ≡ p
+not_searching Searching k p = absurd (k refl)
 not_searching (Collecting x) k p = refl
 not_searching (Reported x r) k p = refl
 not_searching Unfound k p = refl
@@ -97,7 +94,7 @@ not_searching (CutShort x) k p = refl
 
 -- a session that is not searching is left as it is
 pub judge_other : (s : Session) (st : List ℕ) (sm : List Float) → s.streak ≤ s.evaluations
-    → OneOf (1 ∷ 2 ∷ 3 ∷ 4 ∷ []) (tag_of phase.the_type s.phase) → Judged s st sm s
+    → (s.phase ≡ Searching → ⊥) → Judged s st sm s
 unfolding evaluating
 judge_other s st sm h k = judge_idle s st sm h (λ known. not_searching s.phase k (plain_of s st known))
 
@@ -166,15 +163,15 @@ finish_idle s st im vo e =
       counts = λ l. sym (live_work s.phase 144000 vo l);
     }
 
-not_collecting : (h : Phase) → OneOf (0 ∷ 2 ∷ 3 ∷ 4 ∷ []) (tag_of phase.the_type h) → (p : Plain) → reporting_by h p ≡ p
+not_collecting : (h : Phase) → ((x : Start) → h ≡ Collecting x → ⊥) → (p : Plain) → reporting_by h p ≡ p
 not_collecting Searching k p = refl
-not_collecting (Collecting x) k p = absurd (miss (0 ∷ 2 ∷ 3 ∷ 4 ∷ []) 1 tt k)
+not_collecting (Collecting x) k p = absurd (k x refl)
 not_collecting (Reported x r) k p = refl
 not_collecting Unfound k p = refl
 not_collecting (CutShort x) k p = refl
 
 -- a session that is not collecting is left as it is
-pub finish_other : (s : Session) (st im vo : List ℕ) → OneOf (0 ∷ 2 ∷ 3 ∷ 4 ∷ []) (tag_of phase.the_type s.phase) → Finished s st im vo s im vo
+pub finish_other : (s : Session) (st im vo : List ℕ) → ((x : Start) → s.phase ≡ Collecting x → ⊥) → Finished s st im vo s im vo
 unfolding reporting
 finish_other s st im vo k = finish_idle s st im vo (λ known. not_collecting s.phase k (plain_of s st known))
 

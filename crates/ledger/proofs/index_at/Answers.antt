@@ -4,14 +4,12 @@ use mathlib.Core.Bool.{true, false}
 use Prim.Native.Nat.{ℕ, ◌≤◌, ◌<◌}
 use native.Mathlib.Omega.{arith}
 use lib.Ieee.{Float, eq, of_bits, of_int}
-use borrow.Author.Rules.{rules}
 use borrow.Author.Tests.{lt-ltb, le-ltb}
 use Rattle.ieee.specs.Numbers.{decimal}
 use Rattle.ieee.proofs.Whole.{in_float_lem}
 use Rattle.hough.specs.Pass.{angle_of}
 use Rattle.ledger.specs.Ledger.{index_at}
-use Rattle.ledger.proofs.index_at.Statement.{statement}
-use Rattle.ledger.proofs.index_at.Tie as tie
+use Rattle.ledger.proofs.index_at.Goals as goal
 
 above : (q : ℕ) (angle : Float) → 240 ≤ q → 254 ≡ index_at q angle
 above q angle h = rw (le-ltb q 240 h)
@@ -22,22 +20,16 @@ same q angle h e = rw (lt-ltb q 240 h, e)
 other : (q : ℕ) (angle : Float) → q < 240 → eq (angle_of q) angle ≡ false → 254 ≡ index_at q angle
 other q angle h e = rw (lt-ltb q 240 h, e)
 
-returns : tie.Need-returns
-returns c = above _ _ c.if1.true
+pub returns-then-q-ge240 : goal.returns-then-q-ge240
+returns-then-q-ge240 c = above _ _ c.if-q-ge240.true
 
-int-to-float-if2 : tie.Need-int-to-float-if2
-int-to-float-if2 c = in_float_lem _ (omega arith)
+pub int_to_float-q : goal.int_to_float-q
+int_to_float-q c = in_float_lem _ (omega arith)
 
-cast-result : tie.Need-overflow-cast-result
-cast-result c = search rules
-
-returns-2 : tie.Need-returns-2
+pub returns-then-q-angle : goal.returns-then-q-angle
 unfolding angle_of of_bits of_int decimal
-returns-2 c = same _ _ c.before.before.if1.false c.if2.true
+returns-then-q-angle c = same _ _ c.if-q-ge240.false c.if-q-angle.true
 
-returns-3 : tie.Need-returns-3
+pub returns : goal.returns
 unfolding angle_of of_bits of_int decimal
-returns-3 c = other _ _ c.before.before.if1.false c.if2.false
-
-pub index_at_spec : {M : Type 1} → statement M
-index_at_spec = tie.close (tie.spec returns int-to-float-if2 cast-result returns-2 returns-3)
+returns c = other _ _ c.if-q-ge240.false c.if-q-angle.false

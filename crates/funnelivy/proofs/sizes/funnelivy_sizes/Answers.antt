@@ -10,8 +10,7 @@ use Rattle.modespec.specs.Sizes.{window_probes, image_probes, working_rate}
 use Rattle.c_answer.specs.declared.FunnelivySizesAnswer.{FunnelivySizesAnswer}
 use Rattle.funnelivy.specs.Sizes.{sizes_answer}
 use borrow.Author.Rules.{rules}
-use Rattle.funnelivy.proofs.sizes.funnelivy_sizes.Statement.{statement}
-use Rattle.funnelivy.proofs.sizes.funnelivy_sizes.Tie as tie
+use Rattle.funnelivy.proofs.sizes.funnelivy_sizes.Goals as goal
 
 refused : (m : ℕ) → 15 < m → ◌≡◌ {A = FunnelivySizesAnswer} (record { refusal = 1; window = 0; picture = 0 }) (sizes_answer m)
 unfolding sizes_answer
@@ -22,23 +21,18 @@ sized : (m : ℕ) {s : ModeSpec} {w p : ℕ} → m ≤ 15 → s ≡ spec_of m �
 unfolding sizes_answer
 sized m h e f g = rw (le-ltb _ _ h, f, g, e)
 
-returns : tie.Need-returns
-returns c = refused c.before.args.mode c.if1.true
+pub returns-then-mode-gt15 : goal.returns-then-mode-gt15
+returns-then-mode-gt15 c = refused c.args.mode c.if-mode-gt15.true
 
-for-mode-requires : tie.Need-for-mode-requires
-for-mode-requires c κs = search rules
+pub for_mode-spec-requires : goal.for_mode-spec-requires
+for_mode-spec-requires c = search rules
 
-mode-window-probes-requires : tie.Need-mode-window-probes-requires
-mode-window-probes-requires c κs = search rules
+pub mode_window_probes-requires : goal.mode_window_probes-requires
+mode_window_probes-requires c = search rules
 
-image-probes-requires : tie.Need-image-probes-requires
-image-probes-requires c κs = search rules
+pub image_probes-requires : goal.image_probes-requires
+image_probes-requires c = search rules
 
-returns-2 : tie.Need-returns-2
+pub returns : goal.returns
 unfolding of_bits of_int
-returns-2 c = sized c.before.before.before.before.args.mode c.before.before.before.if1.false c.before.before.for-mode.ensures c.before.mode-window-probes.ensures c.image_probes_lem.ensures
-
-pub funnelivy_sizes_spec : {M : Type 1} → statement M
-funnelivy_sizes_spec =
-    tie.close
-    (tie.spec returns for-mode-requires mode-window-probes-requires image-probes-requires returns-2)
+returns c = sized c.args.mode c.if-mode-gt15.false c.for_mode-spec.ensures c.mode_window_probes.ensures c.image_probes.ensures

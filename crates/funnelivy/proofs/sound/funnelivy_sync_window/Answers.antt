@@ -9,8 +9,7 @@ use Rattle.probe.specs.declared.WindowAnswer.{WindowAnswer}
 use Rattle.c_answer.specs.Sound.{refusal_of}
 use Rattle.funnelivy.specs.Sound.{WindowMeets}
 use borrow.Author.Rules.{rules}
-use Rattle.funnelivy.proofs.sound.funnelivy_sync_window.Statement.{statement}
-use Rattle.funnelivy.proofs.sound.funnelivy_sync_window.Tie as tie
+use Rattle.funnelivy.proofs.sound.funnelivy_sync_window.Goals as goal
 
 numbered : (k : ℕ) → refusal_of (window_by k) ≡ k
 numbered zero = refl
@@ -21,17 +20,14 @@ meets : {sound buffer after : List Float} {centre n : ℕ} {a : WindowAnswer} �
 meets {sound} {buffer} {after} {centre} w e =
     record { refusal = e ∙ ap refusal_of w.answered ∙ numbered (window_refusal sound centre buffer); held = w.held }
 
-sync-window-requires : tie.Need-sync-window-requires
-sync-window-requires c κs = search rules
+pub sync_window-requires : goal.sync_window-requires
+sync_window-requires c = search rules
 
-refusal-of-requires : tie.Need-refusal-of-requires
-refusal-of-requires c κs = search rules
+pub refusal_of-requires : goal.refusal_of-requires
+refusal_of-requires c = search rules
 
-same_length : tie.Need-same-length
-same_length c = search rules
+pub shape_of-buffer : goal.shape_of-buffer
+shape_of-buffer c = search rules
 
-returns : tie.Need-returns
-returns c = meets c.before.before.before.sync-window.ensures c.refusal-of.ensures
-
-pub funnelivy_sync_window_spec : {M : Type 1} → statement M
-funnelivy_sync_window_spec = tie.close (tie.spec sync-window-requires refusal-of-requires same_length returns)
+pub returns : goal.returns
+returns c = meets c.sync_window.ensures c.refusal_of.ensures
