@@ -13,6 +13,8 @@ use plain::Phase;
 use replay::tally::Tally;
 use replay::{Long, tally};
 use session::Session;
+use std::io;
+use std::io::Read;
 
 // The session that goes on, and what is counted.
 #[derive(Clone, Copy)]
@@ -37,7 +39,7 @@ fn unopened() -> Session {
 
 // Takes one record.
 fn one(
-    fd: i32,
+    file: &mut impl Read,
     session: Session,
     t: Tally,
     store: &mut [u8; 773825],
@@ -46,15 +48,15 @@ fn one(
     votes: &mut [u16; 144000],
     flags: &mut [u8; 110000],
     samples: &mut [f32; 440000],
-) -> Point {
-    match replay::next_long(fd) {
+) -> io::Result<Point> {
+    match replay::next_long(file)? {
         Long::End => {
             let tally = tally::ended(t);
-            Point { session, tally }
+            Ok(Point { session, tally })
         }
         Long::Cut => {
             let tally = tally::cut(t);
-            Point { session, tally }
+            Ok(Point { session, tally })
         }
         Long::Case {
             op,
@@ -67,43 +69,44 @@ fn one(
             n,
         } => {
             let h = records::Head { op, a, b, c, x, y };
-            let turn = records::record(fd, session, h, n, store, audio, img, votes, flags, samples);
+            let turn = records::record(
+                file, session, h, n, store, audio, img, votes, flags, samples,
+            )?;
             let next = turn.session;
             let tally = tally::counted(t, op, turn.right);
-            Point {
+            Ok(Point {
                 session: next,
                 tally,
-            }
+            })
         }
     }
 }
 
 fn all(
-    fd: i32,
+    file: &mut impl Read,
     store: &mut [u8; 773825],
     audio: &mut [f32; 452065],
     img: &mut [u8; 441000],
     votes: &mut [u16; 144000],
     flags: &mut [u8; 110000],
     samples: &mut [f32; 440000],
-) -> Tally {
+) -> io::Result<Tally> {
     let mut t = tally::start();
     let mut s = unopened();
     let mut turns = u64::MAX;
     while turns > 0 && t.more {
-        let next = one(fd, s, t, store, audio, img, votes, flags, samples);
+        let next = one(file, s, t, store, audio, img, votes, flags, samples)?;
         s = next.session;
         t = next.tally;
         turns -= 1;
     }
-    t
+    Ok(t)
 }
 
-fn main() {
-    let fd = replay::opened(b"vectors");
-    if fd < 0 {
-        return;
-    }
+fn main(rt: HostRuntime) -> io::Result<()> {
+    let Some(mut file) = replay::opened(&rt, "vectors") else {
+        return Ok(());
+    };
     let mut store = [0u8; 773825];
     let mut audio = [0.0f32; 452065];
     let mut img = [0u8; 441000];
@@ -111,14 +114,13 @@ fn main() {
     let mut flags = [0u8; 110000];
     let mut samples = [0.0f32; 440000];
     let t = all(
-        fd,
+        &mut file,
         &mut store,
         &mut audio,
         &mut img,
         &mut votes,
         &mut flags,
         &mut samples,
-    );
-    libc::close(fd);
-    tally::report(b"open feed read", t);
+    )?;
+    tally::report(&rt, b"open feed read", t)
 }

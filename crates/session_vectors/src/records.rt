@@ -2,6 +2,8 @@
 use lent_memory::pieces;
 use session::Session;
 use session_calls::Turn;
+use std::io;
+use std::io::Read;
 
 // A record without its payload.
 #[derive(Clone, Copy)]
@@ -117,7 +119,7 @@ fn feed_record(
 // ---- records
 
 fn answered(
-    fd: i32,
+    file: &mut impl Read,
     session: Session,
     h: Head,
     bytes: &mut [u8],
@@ -127,22 +129,22 @@ fn answered(
     votes: &mut [u16; 144000],
     flags: &mut [u8; 110000],
     samples: &mut [f32; 440000],
-) -> Turn {
-    if !replay::payload(fd, bytes) {
-        return session_calls::wrong(session);
+) -> io::Result<Turn> {
+    if !replay::payload(file, bytes)? {
+        return Ok(session_calls::wrong(session));
     }
     let op = h.op;
-    match op {
+    Ok(match op {
         0 => open_record(session, h, bytes, store, audio, img, votes),
         1 => feed_record(session, h, bytes, store, audio, img, votes, flags, samples),
         2 => session_calls::given(session, h.x, h.y, bytes, img, votes),
         _ => session_calls::wrong(session),
-    }
+    })
 }
 
 // The call of a record with n bytes behind it. No record has more than 16,384.
 pub fn record(
-    fd: i32,
+    file: &mut impl Read,
     session: Session,
     h: Head,
     n: u64,
@@ -152,14 +154,14 @@ pub fn record(
     votes: &mut [u16; 144000],
     flags: &mut [u8; 110000],
     samples: &mut [f32; 440000],
-) -> Turn {
+) -> io::Result<Turn> {
     if n > 16384 {
-        return session_calls::wrong(session);
+        return Ok(session_calls::wrong(session));
     }
     let size: usize = n as usize;
     let mut bytes = [0u8; 16384];
     answered(
-        fd,
+        file,
         session,
         h,
         &mut bytes[..size],
