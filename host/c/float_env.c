@@ -148,6 +148,8 @@ static void smallest_numbers(void) {
     memcpy(&smallest.start_quality, &quality, sizeof quality);
     memcpy(&smallest.quality, &quality, sizeof quality);
     below = smallest;
+    /* A subnormal rate may be taken for 0, and the card be refused for that. */
+    below.rate = 11025.0;
     memcpy(&below.quality, &negative, sizeof negative);
 }
 

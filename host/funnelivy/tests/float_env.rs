@@ -204,13 +204,14 @@ fn faint_card(quality: u32) -> Card {
 #[test]
 fn a_quality_just_below_0_is_not_taken_for_0() {
     let (above, below) = (faint_card(1), faint_card(0x8000_0001));
+    // A subnormal rate may be taken for 0 there, and the card be refused for that.
     let raw = |control| {
         let card = ffi::RawCard {
             taken: below.taken,
             evaluations: below.evaluations,
             start: below.start,
             skip: below.skip,
-            rate: below.rate,
+            rate: 11_025.0,
             start_quality: below.start_quality,
             quality: below.quality,
             mode: below.mode,
