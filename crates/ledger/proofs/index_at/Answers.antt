@@ -1,18 +1,15 @@
 -- `ledger::index_at` meets its contract. Assumes nothing.
 use mathlib.Core.Path.{◌≡◌}
 use mathlib.Core.Bool.{true, false}
-use Prim.Native.Nat.{ℕ, ◌≤◌, ◌<◌}
+use Prim.Native.Nat.{ℕ, ◌<◌}
 use native.Mathlib.Omega.{arith}
 use lib.Ieee.{Float, eq, of_bits, of_int}
-use borrow.Author.Tests.{lt-ltb, le-ltb}
+use borrow.Author.Tests.{lt-ltb}
 use Rattle.ieee.specs.Numbers.{decimal}
 use Rattle.ieee.proofs.Whole.{in_float_lem}
 use Rattle.hough.specs.Pass.{angle_of}
 use Rattle.ledger.specs.Ledger.{index_at}
 use Rattle.ledger.proofs.index_at.Goals as goal
-
-above : (q : ℕ) (angle : Float) → 240 ≤ q → 254 ≡ index_at q angle
-above q angle h = rw (le-ltb q 240 h)
 
 same : (q : ℕ) (angle : Float) → q < 240 → eq (angle_of q) angle ≡ true → q ≡ index_at q angle
 same q angle h e = rw (lt-ltb q 240 h, e)
@@ -20,16 +17,13 @@ same q angle h e = rw (lt-ltb q 240 h, e)
 other : (q : ℕ) (angle : Float) → q < 240 → eq (angle_of q) angle ≡ false → 254 ≡ index_at q angle
 other q angle h e = rw (lt-ltb q 240 h, e)
 
-pub returns-then-q-ge240 : goal.returns-then-q-ge240
-returns-then-q-ge240 c = above _ _ c.if-q-ge240.true
-
 pub int_to_float-q : goal.int_to_float-q
 int_to_float-q c = in_float_lem _ (omega arith)
 
 pub returns-then-q-angle : goal.returns-then-q-angle
 unfolding angle_of of_bits of_int decimal
-returns-then-q-angle c = same _ _ c.if-q-ge240.false c.if-q-angle.true
+returns-then-q-angle c = same _ _ (omega arith) c.if-q-angle.true
 
 pub returns : goal.returns
 unfolding angle_of of_bits of_int decimal
-returns c = other _ _ c.if-q-ge240.false c.if-q-angle.false
+returns c = other _ _ (omega arith) c.if-q-angle.false

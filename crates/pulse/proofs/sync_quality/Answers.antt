@@ -2,6 +2,7 @@
 use mathlib.Core.Path.{ap, ◌∙◌}
 use Prim.Native.Nat.{◌≤◌}
 use native.Mathlib.Omega.{arith}
+use mathlib.Core.Logic.{⊎_elim}
 use lib.ListN.{length}
 use Rattle.modespec.specs.declared.ModeSpec.{ModeSpec}
 use Rattle.pulse.specs.Quality.{quality_of}
@@ -9,7 +10,6 @@ use Rattle.pulse.specs.declared.QualityAnswer.TheVariants.{Quality}
 use Rattle.pulse.proofs.Columns.{columns_fit}
 use Rattle.pulse.proofs.Answers.{quality_mode, quality_counts, quality_lines, quality_found}
 use Rattle.pulse.proofs.sync_quality.Goals as goal
-use Rattle.pulse.proofs.sync_quality.Goals.{then-counts-gt65536-via-then-counts-gt65536, then-counts-gt65536-via-else-counts-gt65536+then-lines-gt65536}
 
 pub returns-then-mode-gt15 : goal.returns-then-mode-gt15
 returns-then-mode-gt15 c = let a = c.args in quality_mode a.counts.now a.mode a.lines c.if-mode-gt15.true
@@ -18,10 +18,8 @@ pub returns-then-counts-gt65536 : goal.returns-then-counts-gt65536
 returns-then-counts-gt65536 c =
     let a = c.args in
     let k = a.counts.now in
-    elim c.then-counts-gt65536.branch [
-      | then-counts-gt65536-via-then-counts-gt65536 w ↦ quality_counts k a.mode a.lines c.if-mode-gt15.false w.if-counts-gt65536.true
-      | then-counts-gt65536-via-else-counts-gt65536+then-lines-gt65536 w ↦ quality_lines k a.mode a.lines c.if-mode-gt15.false w.if-lines-gt65536.true
-    ]
+    let m = c.if-mode-gt15.false in
+    ⊎_elim (λ h. quality_counts k a.mode a.lines m h) (λ h. quality_lines k a.mode a.lines m h.1) c.then-counts-gt65536.either
 
 pub quality-requires : goal.quality-requires
 quality-requires c =

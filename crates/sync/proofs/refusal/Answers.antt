@@ -2,6 +2,7 @@
 use mathlib.Core.Path.{sym, ◌∙◌}
 use mathlib.Core.Bool.{true, false}
 use mathlib.Core.Logic.{⊎_elim}
+use native.Mathlib.Omega.{arith}
 use Rattle.sync.proofs.Refusals.{refuse_mode, refuse_rate, refuse_img, refuse_votes, refuse_many, refuse_flag}
 use Rattle.sync.proofs.refusal.Goals as goal
 
@@ -9,7 +10,7 @@ pub returns-then-mode-gt15 : goal.returns-then-mode-gt15
 returns-then-mode-gt15 c = let a = c.args in refuse_mode a.flags.now a.rate a.mode a.img_places a.votes_places c.if-mode-gt15.true
 
 pub returns-then-not-rate_allowed : goal.returns-then-not-rate_allowed
-returns-then-not-rate_allowed c = let a = c.args in refuse_rate a.flags.now a.rate a.mode a.img_places a.votes_places c.if-mode-gt15.false (sym c.rate_allowed.ensures ∙ c.if-not-rate_allowed.true)
+returns-then-not-rate_allowed c = let a = c.args in refuse_rate a.flags.now a.rate a.mode a.img_places a.votes_places (omega arith) (sym c.rate_allowed.ensures ∙ c.if-not-rate_allowed.true)
 
 pub returns-then-img_places-lt-IMG_BYTES : goal.returns-then-img_places-lt-IMG_BYTES
 returns-then-img_places-lt-IMG_BYTES c =

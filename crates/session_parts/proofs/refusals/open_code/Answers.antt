@@ -11,7 +11,7 @@ returns-then-mode-gt15 c = rw (lt-ltb 15 c.args.mode c.if-mode-gt15.true)
 
 pub returns-then-anchor-gt-MAX_ANCHOR : goal.returns-then-anchor-gt-MAX_ANCHOR
 unfolding open_code
-returns-then-anchor-gt-MAX_ANCHOR c = rw (le-ltb 15 c.args.mode c.if-mode-gt15.false, lt-ltb (2 ^ 62) c.args.anchor c.if-anchor-gt-MAX_ANCHOR.true)
+returns-then-anchor-gt-MAX_ANCHOR c = rw (le-ltb 15 c.args.mode (omega arith), lt-ltb (2 ^ 62) c.args.anchor c.if-anchor-gt-MAX_ANCHOR.true)
 
 pub window-requires : goal.window-requires
 window-requires c = search rules
@@ -24,30 +24,30 @@ overflow_add-window c = search rules
 
 pub returns-then-capacity-window : goal.returns-then-capacity-window
 unfolding open_code
-returns-then-capacity-window c = rw (le-ltb 15 c.args.mode c.if-mode-gt15.false, le-ltb (2 ^ 62) c.args.anchor c.if-anchor-gt-MAX_ANCHOR.false, lt-ltb c.args.capacity (window_of c.args.mode + picture_of c.args.mode) (let w = c.window.ensures.is in let k = c.picture.ensures.is in omega arith))
+returns-then-capacity-window c = rw (le-ltb 15 c.args.mode (omega arith), le-ltb (2 ^ 62) c.args.anchor (omega arith), lt-ltb c.args.capacity (window_of c.args.mode + picture_of c.args.mode) (let w = c.window.ensures.is in let k = c.picture.ensures.is in omega arith))
 
 pub returns-then-capacity-gt-MAX_FLAGS : goal.returns-then-capacity-gt-MAX_FLAGS
 unfolding open_code
-returns-then-capacity-gt-MAX_FLAGS c = rw (le-ltb 15 c.args.mode c.if-mode-gt15.false, le-ltb (2 ^ 62) c.args.anchor c.if-anchor-gt-MAX_ANCHOR.false, le-ltb c.args.capacity (window_of c.args.mode + picture_of c.args.mode) (let w = c.window.ensures.is in let k = c.picture.ensures.is in omega arith), lt-ltb 16777216 c.args.capacity c.if-capacity-gt-MAX_FLAGS.true)
+returns-then-capacity-gt-MAX_FLAGS c = rw (le-ltb 15 c.args.mode (omega arith), le-ltb (2 ^ 62) c.args.anchor (omega arith), le-ltb c.args.capacity (window_of c.args.mode + picture_of c.args.mode) (let w = c.window.ensures.is in let k = c.picture.ensures.is in omega arith), lt-ltb 16777216 c.args.capacity c.if-capacity-gt-MAX_FLAGS.true)
 
 pub short_samples-requires : goal.short_samples-requires
 short_samples-requires c = search rules
 
 pub returns-then-short_samples : goal.returns-then-short_samples
 unfolding open_code
-returns-then-short_samples c = rw (le-ltb 15 c.args.mode c.if-mode-gt15.false, le-ltb (2 ^ 62) c.args.anchor c.if-anchor-gt-MAX_ANCHOR.false, le-ltb c.args.capacity (window_of c.args.mode + picture_of c.args.mode) (let w = c.window.ensures.is in let k = c.picture.ensures.is in omega arith), le-ltb 16777216 c.args.capacity c.if-capacity-gt-MAX_FLAGS.false, sym c.short_samples.ensures ∙ c.if-short_samples.true)
+returns-then-short_samples c = rw (le-ltb 15 c.args.mode (omega arith), le-ltb (2 ^ 62) c.args.anchor (omega arith), le-ltb c.args.capacity (window_of c.args.mode + picture_of c.args.mode) (let w = c.window.ensures.is in let k = c.picture.ensures.is in omega arith), le-ltb 16777216 c.args.capacity c.if-capacity-gt-MAX_FLAGS.false, sym c.short_samples.ensures ∙ c.if-short_samples.true)
 
 pub returns-then-first-ne4 : goal.returns-then-first-ne4
 unfolding open_code
-returns-then-first-ne4 c = rw (le-ltb 15 c.args.mode c.if-mode-gt15.false, le-ltb (2 ^ 62) c.args.anchor c.if-anchor-gt-MAX_ANCHOR.false, le-ltb c.args.capacity (window_of c.args.mode + picture_of c.args.mode) (let w = c.window.ensures.is in let k = c.picture.ensures.is in omega arith), le-ltb 16777216 c.args.capacity c.if-capacity-gt-MAX_FLAGS.false, sym c.short_samples.ensures ∙ c.if-short_samples.false, ne_eqb (length c.args.first.now) 4 c.if-first-ne4.true)
+returns-then-first-ne4 c = rw (le-ltb 15 c.args.mode (omega arith), le-ltb (2 ^ 62) c.args.anchor (omega arith), le-ltb c.args.capacity (window_of c.args.mode + picture_of c.args.mode) (let w = c.window.ensures.is in let k = c.picture.ensures.is in omega arith), le-ltb 16777216 c.args.capacity c.if-capacity-gt-MAX_FLAGS.false, sym c.short_samples.ensures ∙ c.if-short_samples.false, ne_eqb (length c.args.first.now) 4 c.if-first-ne4.true)
 
 pub any_unsound-requires : goal.any_unsound-requires
 any_unsound-requires c = search rules
 
 pub returns-then-any_unsound : goal.returns-then-any_unsound
 unfolding open_code
-returns-then-any_unsound c = rw (le-ltb 15 c.args.mode c.if-mode-gt15.false, le-ltb (2 ^ 62) c.args.anchor c.if-anchor-gt-MAX_ANCHOR.false, le-ltb c.args.capacity (window_of c.args.mode + picture_of c.args.mode) (let w = c.window.ensures.is in let k = c.picture.ensures.is in omega arith), le-ltb 16777216 c.args.capacity c.if-capacity-gt-MAX_FLAGS.false, sym c.short_samples.ensures ∙ c.if-short_samples.false, eq-eqb (length c.args.first.now) 4 c.if-first-ne4.false, sym c.any_unsound.ensures ∙ c.if-any_unsound.true)
+returns-then-any_unsound c = rw (le-ltb 15 c.args.mode (omega arith), le-ltb (2 ^ 62) c.args.anchor (omega arith), le-ltb c.args.capacity (window_of c.args.mode + picture_of c.args.mode) (let w = c.window.ensures.is in let k = c.picture.ensures.is in omega arith), le-ltb 16777216 c.args.capacity c.if-capacity-gt-MAX_FLAGS.false, sym c.short_samples.ensures ∙ c.if-short_samples.false, eq-eqb (length c.args.first.now) 4 c.if-first-ne4.false, sym c.any_unsound.ensures ∙ c.if-any_unsound.true)
 
 pub returns : goal.returns
 unfolding open_code
-returns c = rw (le-ltb 15 c.args.mode c.if-mode-gt15.false, le-ltb (2 ^ 62) c.args.anchor c.if-anchor-gt-MAX_ANCHOR.false, le-ltb c.args.capacity (window_of c.args.mode + picture_of c.args.mode) (let w = c.window.ensures.is in let k = c.picture.ensures.is in omega arith), le-ltb 16777216 c.args.capacity c.if-capacity-gt-MAX_FLAGS.false, sym c.short_samples.ensures ∙ c.if-short_samples.false, eq-eqb (length c.args.first.now) 4 c.if-first-ne4.false, sym c.any_unsound.ensures ∙ c.if-any_unsound.false)
+returns c = rw (le-ltb 15 c.args.mode (omega arith), le-ltb (2 ^ 62) c.args.anchor (omega arith), le-ltb c.args.capacity (window_of c.args.mode + picture_of c.args.mode) (let w = c.window.ensures.is in let k = c.picture.ensures.is in omega arith), le-ltb 16777216 c.args.capacity c.if-capacity-gt-MAX_FLAGS.false, sym c.short_samples.ensures ∙ c.if-short_samples.false, eq-eqb (length c.args.first.now) 4 c.if-first-ne4.false, sym c.any_unsound.ensures ∙ c.if-any_unsound.false)
