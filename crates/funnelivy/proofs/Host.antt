@@ -24,7 +24,7 @@ use Rattle.session.specs.declared.Opened.TheVariants as op
 use Rattle.session.specs.declared.Fed.{Fed}
 use Rattle.session.specs.declared.Fed.TheVariants as fed
 use Rattle.session.specs.declared.Given.{Given}
-use Rattle.session.specs.declared.Given.TheVariants as goal
+use Rattle.session.specs.declared.Given.TheVariants as given
 use Rattle.session.specs.Hold as hold
 use Rattle.session.specs.Hold.{OpenMeets, FeedMeets, FeedNumber, answer_of, given_by, given_of, feed_call, setup, session_point}
 use Rattle.session.specs.Trace as list
@@ -69,8 +69,8 @@ gave_same (end.CutShort x w q) t n = refl
 
 -- read refuses with no number 0
 abbrev Numbered : Given → Type 0
-Numbered (goal.Gave g) = Unit
-Numbered (goal.Refused k) = eqb k 0 ≡ false
+Numbered (given.Gave g) = Unit
+Numbered (given.Refused k) = eqb k 0 ≡ false
 
 numbered : (h : Phase) (s : Session) → Numbered (given_by h s)
 numbered Searching s = refl
@@ -80,8 +80,8 @@ numbered Unfound s = tt
 numbered (CutShort x) s = tt
 
 given_same : (g : Given) → Numbered g → read_answer (reading_wire g) ≡ given_of g
-given_same (goal.Gave g) h = gave_same g.end g.taken g.evaluations
-given_same (goal.Refused k) h = simp h
+given_same (given.Gave g) h = gave_same g.end g.taken g.evaluations
+given_same (given.Refused k) h = simp h
 
 reading_same : (w : FunnelivySession) (r : FunnelivyReading) (m : ReadingMeets w r) → read_answer r ≡ given_of m.given
 reading_same w r m =

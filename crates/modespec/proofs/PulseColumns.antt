@@ -1,6 +1,6 @@
 -- The pulse columns among n are at least 1 and at most n, or 1 where n is 0: `clamp` holds them there.
 -- Assumes nothing.
-use Rattle.std.proofs.Common.{◌≡◌, ℕ, zero, suc, ◌+◌, ◌-◌, ◌*◌, ◌/◌, ◌^◌, ◌<◌, ◌≤◌, min, max, Bool, true, false, cond, T, ltb, ℤ, pos, sym, refl, ap, ◌∙◌, true≢false, le_trans, le_of_eq, mul-le-mul_right, mul_comm, one-mul, le-div_iff_mul-le, mul-one, arith, lit≤, nltb→le}
+use Rattle.std.proofs.Common.{◌≡◌, ℕ, zero, suc, ◌+◌, ◌-◌, ◌*◌, ◌/◌, ◌^◌, ◌<◌, ◌≤◌, min, max, Bool, true, false, cond, T, ltb, ℤ, pos, sym, refl, ◌∙◌, true≢false, le_trans, le_of_eq, mul-le-mul_right, mul_comm, one-mul, le-div_iff_mul-le, mul-one, arith, lit≤, nltb→le}
 use native.Mathlib.Nat.{div-le_of_le-mul}
 use lib.Ieee.{Float, nan, inf, fin, Format, binary64, prec, emax, low, up, down, unlike, units, odd, round, mul, div, lt, to_unsigned, of_int}
 use lib.Ieee.Fits.{down_pos}

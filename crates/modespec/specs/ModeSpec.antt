@@ -1,6 +1,6 @@
 -- The sixteen modes (01-scope.md, "Modes"): the rows of modespec.rs in the order of `SstvMode`, numbered from 0. Definitions only.
 -- `decimal n k` is n / 10 ^ k, rounded once, as the literal of the Rust is.
-use Rattle.std.specs.Prelude.{ℕ, List, [], ◌∷◌, slice_index_or, Float}
+use Rattle.std.specs.Prelude.{ℕ, List, [], ◌∷◌, slice_index_or}
 use Rattle.ieee.specs.Numbers.{decimal}
 use Rattle.modespec.specs.declared.ModeSpec.{ModeSpec}
 use Rattle.modespec.specs.declared.ChannelLayout.TheVariants.{PdYcbcr, RobotYuv, RgbSequential, Monochrome}

@@ -24,7 +24,6 @@ use Rattle.modespec.specs.Sizes.{working_rate, line_width}
 use Rattle.modespec.proofs.Rows.{line_width_lem}
 use Rattle.angles.specs.Angle.{tangent_table, tangent_bits}
 use Rattle.hough.specs.declared.Slant.{Slant}
-use Rattle.hough.specs.declared.Slant.TheVariants as Slant
 use Rattle.hough.specs.declared.SlantDeg.TheVariants as SlantDeg
 use Rattle.hough.specs.declared.Passes.{Passes}
 use Rattle.hough.specs.Pass.{Pass, pass_of, votes_of, winner_of, angle_of, rate_of, slant_by, slant_of}
