@@ -41,7 +41,7 @@
  *
  * Stack. FUNNELIVY_STACK_BYTES of free stack are enough for every call, and
  * FUNNELIVY_SMALL_STACK_BYTES for every call but feed and find_sync. Measured,
- * with the arguments: feed 38,000 bytes, find_sync 20,500, the others below
+ * with the arguments: feed 43,600 bytes, find_sync 20,400, the others below
  * 500, and 3,200 more where the dynamic linker binds memset in the first call.
  * Large frames are touched page by page from above, so that a guard page is not
  * jumped over. What signal handlers take comes on top.
