@@ -1,4 +1,4 @@
-// Float operations of Rust that Rattle lacks, each total and equal to one definition.
+// Float operations of Rust, each total and equal to one definition.
 #![tactic(auto)]
 
 ghost use Rattle.std.specs.Prelude.{◌≡◌, ◌+◌, ◌^◌, ◌<◌, ◌≤◌};

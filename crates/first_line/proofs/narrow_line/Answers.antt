@@ -19,7 +19,7 @@ none_yet flags s pulse start e =
       at_most = omega arith;
       room = rw e (to_unsigned-lt 64 _);
       run_is = run_none flags s.lo;
-      longest-is = longest_none flags s.lo;
+      longest_is = longest_none flags s.lo;
     }
 
 one_more : (flags : List ℕ) (lo hi i run longest run' longest' : ℕ) → Looked flags lo hi i run longest → i < hi
@@ -31,7 +31,7 @@ one_more flags lo hi i run longest run' longest' k h p q =
       at_most = omega (arith, k.at_least);
       room = k.room;
       run_is = r;
-      longest-is = q ∙ longest_next flags lo i run' longest k.at_least k.longest-is r;
+      longest_is = q ∙ longest_next flags lo i run' longest k.at_least k.longest_is r;
     }
 
 run_room : (flags : List ℕ) (lo hi i run longest : ℕ) → Looked flags lo hi i run longest → i < hi → run < 2 ^ 64 - 1
@@ -45,7 +45,7 @@ judged : (flags : List ℕ) (line pulse need : Float) (a column y i run longest 
 unfolding pulsed_line
 judged flags line pulse need a column y i run longest s t e n k h p =
     let l : i - s.lo ≡ s.hi - s.lo = omega (arith, k.at_most, k.at_least) in
-    rw (p, n, k.longest-is, l, e)
+    rw (p, n, k.longest_is, l, e)
 
 -- a line that is not pulsed, and a pulsed one behind a line that is not
 module _ (p : ℕ → Bool) (clean : Bool) (y line : ℕ) (s : Scanned p clean y line) (r now : Bool) (e : r ≡ p line) where

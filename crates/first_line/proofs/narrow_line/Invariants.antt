@@ -11,7 +11,7 @@ pub record Looked (flags : List ℕ) (lo hi i run longest : ℕ) : Type 0 where
   pub at_most : i - lo ≤ hi - lo
   pub room : hi < 2 ^ 64
   pub run_is : run ≡ run_to flags lo (i - lo)
-  pub longest-is : longest ≡ longest_to flags lo (i - lo)
+  pub longest_is : longest ≡ longest_to flags lo (i - lo)
 
 abbrev pub invariant-loop-i : goal.invariant-loop-i
 invariant-loop-i l =

@@ -8,8 +8,8 @@ use Rattle.fma.proofs.Combining.{hi_lt, sum_second, sum_first, sum_far, sum_abov
 use borrow.Author.Rules.{rules}
 use Rattle.fma.proofs.combined.Goals as goal
 
-close-by : (d k : ℕ) → d ≤ k + 74 → d - k ≤ 74
-close-by d k h = omega arith
+close_by : (d k : ℕ) → d ≤ k + 74 → d - k ≤ 74
+close_by d k h = omega arith
 
 some : (q : ℕ) → (q ≡ 0 → ⊥) → 0 < q
 some q h = omega arith
@@ -33,7 +33,7 @@ pub wide_shl-z-requires : goal.wide_shl-z-requires
 wide_shl-z-requires c = search rules
 
 pub close-requires-then-d-k-2 : goal.close-requires-then-d-k-2
-close-requires-then-d-k-2 c = (c.requires.0, c.requires.1, hi_lt c.args.a c.args.b c.wide_mul-p.result.hi c.wide_mul-p.result.lo c.requires.2 c.wide_mul-p.ensures, zh_lt c.args.q (c.args.d - c.args.k) c.wide_shl-z.result.hi c.wide_shl-z.result.lo c.requires.4 (close-by c.args.d c.args.k c.if-d-k.false) c.wide_shl-z.ensures, lt_of_lt_of_le c.requires.5 (lit≤ tt))
+close-requires-then-d-k-2 c = (c.requires.0, c.requires.1, hi_lt c.args.a c.args.b c.wide_mul-p.result.hi c.wide_mul-p.result.lo c.requires.2 c.wide_mul-p.ensures, zh_lt c.args.q (c.args.d - c.args.k) c.wide_shl-z.result.hi c.wide_shl-z.result.lo c.requires.4 (close_by c.args.d c.args.k c.if-d-k.false) c.wide_shl-z.ensures, lt_of_lt_of_le c.requires.5 (lit≤ tt))
 
 pub overflow_sub-k : goal.overflow_sub-k
 overflow_sub-k c = search rules

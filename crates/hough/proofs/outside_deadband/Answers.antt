@@ -22,16 +22,16 @@ both (fin false m e) = right (ltb (1 * 1 * down e) (m * up e * 2))
     right true = refl
     right false = refl
 
-far-above : (d : Float) → lt half d ≡ true → true ≡ lt half (abs d)
-far-above d e = sym (both d ∙ rw e)
+far_above : (d : Float) → lt half d ≡ true → true ≡ lt half (abs d)
+far_above d e = sym (both d ∙ rw e)
 
-far-below : (d : Float) → lt half d ≡ false → lt d (neg half) ≡ lt half (abs d)
-far-below d e = sym (both d ∙ rw e)
+far_below : (d : Float) → lt half d ≡ false → lt d (neg half) ≡ lt half (abs d)
+far_below d e = sym (both d ∙ rw e)
 
 pub returns-then-d : goal.returns-then-d
 unfolding outside_deadband of_bits of_int decimal
-returns-then-d c = c.if-d.true ∙ far-above (sub binary64 c.args.angle (of_nat 90)) c.if-d.true
+returns-then-d c = c.if-d.true ∙ far_above (sub binary64 c.args.angle (of_nat 90)) c.if-d.true
 
 pub returns-else-d : goal.returns-else-d
 unfolding outside_deadband of_bits of_int decimal neg
-returns-else-d c = far-below (sub binary64 c.args.angle (of_nat 90)) c.if-d.false
+returns-else-d c = far_below (sub binary64 c.args.angle (of_nat 90)) c.if-d.false

@@ -21,9 +21,9 @@ number nan y h k = absurd (true≢false (sym k))
 number (inf s) y h k = ap (λ (b : Bool). cond b y (inf s)) h
 number (fin s m e) y h k = ap (λ (b : Bool). cond b y (fin s m e)) h
 
-not-number : (x y : Float) → eq x x ≡ false → maximum x y ≡ y
+not_number : (x y : Float) → eq x x ≡ false → maximum x y ≡ y
 unfolding maximum is_nan ne
-not-number x y h = ap (λ (z : Float). maximum z y) (differs_from_itself x (differs x h))
+not_number x y h = ap (λ (z : Float). maximum z y) (differs_from_itself x (differs x h))
   where
     differs : (z : Float) → eq z z ≡ false → T (ne z z)
     differs z k = subst (λ (b : Bool). T (not b)) (sym k) tt
@@ -35,4 +35,4 @@ pub returns-then-x : goal.returns-then-x
 returns-then-x c = let a = c.args in sym (number a.x a.y c.if-x-y.false c.if-x.true)
 
 pub returns-else-x : goal.returns-else-x
-returns-else-x c = let a = c.args in sym (not-number a.x a.y c.if-x.false)
+returns-else-x c = let a = c.args in sym (not_number a.x a.y c.if-x.false)

@@ -31,8 +31,8 @@ module _ (w sh : ℕ) (a : 1 ≤ sh) (b : sh < 64) (d : w < 2 ^ 63) where
       go : (k : ℕ) → k ≤ 2 ^ 62 → w + (k - 1) < 2 ^ 64
       go k h = omega arith
 
-  sum2-fits : {r : ℕ} → r < 2 ^ 1 → w + (1 * 2 ^ (sh - 1) % 2 ^ 64 - 1) + r < 2 ^ 64
-  sum2-fits {r} l = subst (λ (k : ℕ). w + (k - 1) + r < 2 ^ 64) (sym half_is) (go (2 ^ (sh - 1)) r half_le l)
+  sum2_fits : {r : ℕ} → r < 2 ^ 1 → w + (1 * 2 ^ (sh - 1) % 2 ^ 64 - 1) + r < 2 ^ 64
+  sum2_fits {r} l = subst (λ (k : ℕ). w + (k - 1) + r < 2 ^ 64) (sym half_is) (go (2 ^ (sh - 1)) r half_le l)
     where
       go : (k r : ℕ) → k ≤ 2 ^ 62 → r < 2 ^ 1 → w + (k - 1) + r < 2 ^ 64
       go k r h l = omega arith
@@ -65,7 +65,7 @@ pub overflow_shr-result : goal.overflow_shr-result
 overflow_shr-result c = search rules
 
 pub overflow_add-result-2 : goal.overflow_add-result-2
-overflow_add-result-2 c = record { fits = sum2-fits c.args.w c.args.sh c.requires.0 c.requires.1 c.requires.2 (mask_lt (c.args.w / 2 ^ c.args.sh) 1) }
+overflow_add-result-2 c = record { fits = sum2_fits c.args.w c.args.sh c.requires.0 c.requires.1 c.requires.2 (mask_lt (c.args.w / 2 ^ c.args.sh) 1) }
 
 pub overflow_shr-result-2 : goal.overflow_shr-result-2
 overflow_shr-result-2 c = search rules

@@ -13,12 +13,6 @@ unfolding pulse_offset
 inside spec k p e =
     ap (λ (x : Float). sub binary64 (div binary64 spec.line_seconds (fin false 1 (pos 1))) x) e ∙ sym (ap (λ (s : SyncPosition). pulse_offset_by s spec) p)
 
-pub enum_told-1 : goal.enum_told-1
-enum_told-1 c = search rules
-
-pub enum_told-in-Scottie : goal.enum_told-in-Scottie
-enum_told-in-Scottie c = search rules
-
 pub skip_correction_seconds-requires : goal.skip_correction_seconds-requires
 skip_correction_seconds-requires c = search rules
 

@@ -33,57 +33,57 @@ module _ (c : goal.Start) where
   left_is : left ≡ d -ℤ pos leaves
   left_is = rw (kept_as {x = d} refl (omega (arith, c.requires)), to_z_pos w64 leaves (omega (arith, c.ranges.leaves)))
 
-  left-small : mag (d -ℤ pos leaves) < 2 ^ 36
-  left-small = omega (arith, less_mag d leaves, c.requires, c.ranges.leaves)
+  left_small : mag (d -ℤ pos leaves) < 2 ^ 36
+  left_small = omega (arith, less_mag d leaves, c.requires, c.ranges.leaves)
 
-  left-fits : SFits w64 left
-  left-fits = fits_as left_is (omega (arith, left-small))
+  left_fits : SFits w64 left
+  left_fits = fits_as left_is (omega (arith, left_small))
 
   module _ (m : ℕ) (M : m ≤ 2) where
     -- m times the one that crosses
     abbrev times : ℤ
     times = pos m *ℤ to_z w64 crosses
 
-    times-is : times ≡ pos (m * crosses)
-    times-is = rw (to_z_pos w64 crosses (omega (arith, c.ranges.crosses)))
+    times_is : times ≡ pos (m * crosses)
+    times_is = rw (to_z_pos w64 crosses (omega (arith, c.ranges.crosses)))
 
-    times-small : m * crosses < 2 ^ 33
-    times-small = let h : crosses ≤ 4294967295 = omega (arith, c.ranges.crosses) in omega (arith, mul-le-mul M h)
+    times_small : m * crosses < 2 ^ 33
+    times_small = let h : crosses ≤ 4294967295 = omega (arith, c.ranges.crosses) in omega (arith, mul-le-mul M h)
 
-    times-fits : SFits w64 times
-    times-fits = fits_as times-is (omega (arith, times-small))
+    times_fits : SFits w64 times
+    times_fits = fits_as times_is (omega (arith, times_small))
 
     -- plus that
     abbrev sum : ℤ
     sum = to_z w64 (of_z w64 left) +ℤ to_z w64 (of_z w64 times)
 
     sum_is : sum ≡ d -ℤ pos leaves +ℤ pos (m * crosses)
-    sum_is = rw (kept_as left_is (omega (arith, left-small)), kept_as times-is (omega (arith, times-small)))
+    sum_is = rw (kept_as left_is (omega (arith, left_small)), kept_as times_is (omega (arith, times_small)))
 
-    sum-small : mag (d -ℤ pos leaves +ℤ pos (m * crosses)) < 2 ^ 37
-    sum-small = omega (arith, left-small, times-small, more_mag (d -ℤ pos leaves) (m * crosses))
+    sum_small : mag (d -ℤ pos leaves +ℤ pos (m * crosses)) < 2 ^ 37
+    sum_small = omega (arith, left_small, times_small, more_mag (d -ℤ pos leaves) (m * crosses))
 
     sum_fits : SFits w64 sum
-    sum_fits = fits_as sum_is (omega (arith, sum-small))
+    sum_fits = fits_as sum_is (omega (arith, sum_small))
 
     -- less the one that enters
-    slid-is : to_z w64 (of_z w64 sum) -ℤ to_z w64 enters ≡ d -ℤ pos leaves +ℤ pos (m * crosses) -ℤ pos enters
-    slid-is = rw (kept_as sum_is (omega (arith, sum-small)), to_z_pos w64 enters (omega (arith, c.ranges.enters)))
+    slid_is : to_z w64 (of_z w64 sum) -ℤ to_z w64 enters ≡ d -ℤ pos leaves +ℤ pos (m * crosses) -ℤ pos enters
+    slid_is = rw (kept_as sum_is (omega (arith, sum_small)), to_z_pos w64 enters (omega (arith, c.ranges.enters)))
 
-    slid-small : mag (d -ℤ pos leaves +ℤ pos (m * crosses) -ℤ pos enters) < 2 ^ 63
-    slid-small = omega (arith, sum-small, less_mag (d -ℤ pos leaves +ℤ pos (m * crosses)) enters, c.ranges.enters)
+    slid_small : mag (d -ℤ pos leaves +ℤ pos (m * crosses) -ℤ pos enters) < 2 ^ 63
+    slid_small = omega (arith, sum_small, less_mag (d -ℤ pos leaves +ℤ pos (m * crosses)) enters, c.ranges.enters)
 
 pub overflow_sub-result : goal.overflow_sub-result
-overflow_sub-result c = left-fits c
+overflow_sub-result c = left_fits c
 
 pub overflow_mul-result : goal.overflow_mul-result
-overflow_mul-result c = times-fits c _ (lit≤ tt)
+overflow_mul-result c = times_fits c _ (lit≤ tt)
 
 pub overflow_add-result : goal.overflow_add-result
 overflow_add-result c = sum_fits c _ (lit≤ tt)
 
 pub overflow_sub-result-2 : goal.overflow_sub-result-2
-overflow_sub-result-2 c = fits_as (slid-is c _ (lit≤ tt)) (slid-small c _ (lit≤ tt))
+overflow_sub-result-2 c = fits_as (slid_is c _ (lit≤ tt)) (slid_small c _ (lit≤ tt))
 
 pub returns : goal.returns
-returns c = kept_as (slid-is c 2 (lit≤ tt)) (slid-small c 2 (lit≤ tt))
+returns c = kept_as (slid_is c 2 (lit≤ tt)) (slid_small c 2 (lit≤ tt))

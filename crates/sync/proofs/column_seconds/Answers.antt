@@ -11,9 +11,9 @@ use Rattle.sync.specs.Fold.{column_seconds}
 use Rattle.sync.proofs.column_seconds.Goals as goal
 
 -- a part times the line is the column's time
-time-is : (line : Float) (x : ℕ) (parts : List Float) (d : Float) → x < 700 → parts ≡ list_to (column_part 700) 700 → mul binary64 (get_or parts x d) line ≡ column_seconds line x
+time_is : (line : Float) (x : ℕ) (parts : List Float) (d : Float) → x < 700 → parts ≡ list_to (column_part 700) 700 → mul binary64 (get_or parts x d) line ≡ column_seconds line x
 unfolding column_seconds
-time-is line x parts d h e = rw (e, get_d_list (column_part 700) 700 x d h)
+time_is line x parts d h e = rw (e, get_d_list (column_part 700) 700 x d h)
 
 pub column_parts-parts-requires : goal.column_parts-parts-requires
 column_parts-parts-requires c = omega arith
@@ -43,7 +43,7 @@ loop-x-smaller c = omega arith
 pub loop-x-preserved : goal.loop-x-preserved
 loop-x-preserved c =
     let line = c.args.line in
-    (omega arith, simp length-set c.loop-x.invariant.1, write_next (column_seconds line) c.loop-x.seconds c.loop-x.x _ (omega arith) c.loop-x.invariant.2 (time-is line c.loop-x.x c.column_parts-parts.result _ (omega arith) c.column_parts-parts.ensures))
+    (omega arith, simp length-set c.loop-x.invariant.1, write_next (column_seconds line) c.loop-x.seconds c.loop-x.x _ (omega arith) c.loop-x.invariant.2 (time_is line c.loop-x.x c.column_parts-parts.result _ (omega arith) c.column_parts-parts.ensures))
 
 pub returns : goal.returns
 returns c =

@@ -5,13 +5,13 @@ use Rattle.sync_start.specs.Evaluate.{taken_at, evaluation_by, evaluation_of}
 use Rattle.sync_start.proofs.evaluate.Goals as goal
 
 -- no more samples than there are
-all-heard : {A : Type 0} (n : ℕ) (l : List A) → take (min n (length l)) l ≡ take n l
-all-heard n l = sym (take-take (min n (length l)) n l (omega arith)) ∙ take_all (min n (length l)) (take n l) (rw length-take (omega arith))
+all_heard : {A : Type 0} (n : ℕ) (l : List A) → take (min n (length l)) l ≡ take n l
+all_heard n l = sym (take-take (min n (length l)) n l (omega arith)) ∙ take_all (min n (length l)) (take n l) (rw length-take (omega arith))
 
 lent : (mode j : ℕ) (flags : List ℕ) (samples : List Float) (streak taken known : ℕ) → taken ≡ taken_at mode j → known ≡ min (4 * (taken + 1)) (length samples)
     → evaluation_by mode j (take taken flags) (take known samples) streak ≡ evaluation_of mode j flags samples streak
 unfolding evaluation_of
-lent mode j flags samples streak taken known e k = rw (k, all-heard (4 * (taken + 1)) samples, e)
+lent mode j flags samples streak taken known e k = rw (k, all_heard (4 * (taken + 1)) samples, e)
 
 pub overflow_add-taken : goal.overflow_add-taken
 overflow_add-taken c = let e = c.mode_window_probes-w.ensures in omega arith

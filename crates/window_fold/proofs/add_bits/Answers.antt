@@ -20,13 +20,13 @@ module _ (window places old : List ℕ) (n : length old ≡ 700) where
     within : x < length (added_to window places old)
     within = rw (added_length window places old) h
 
-    now-at : get_or l x 0 ≡ get_or old x 0
-    now-at = mixed_at (added_to window places old) old l x 0 sizes within m
+    now_at : get_or l x 0 ≡ get_or old x 0
+    now_at = mixed_at (added_to window places old) old l x 0 sizes within m
 
     counted : (v : ℕ) → v ≡ bit_at window (get_or places x 0) → Mixed (added_to window places old) old (x + 1) (set l x (get_or l x 0 + v))
     counted v e =
         mixed_more (added_to window places old) old l x (get_or l x 0 + v) 0 sizes within m
-        (rw (now-at, e) (sym (added_at window places old x h)))
+        (rw (now_at, e) (sym (added_at window places old x h)))
 
   done : (x : ℕ) (l : List ℕ) → 700 ≤ x → Mixed (added_to window places old) old x l → l ≡ added_to window places old
   done x l h m = mixed_all (added_to window places old) old l x (rw (added_length window places old) h) m
@@ -52,7 +52,7 @@ bounds-counts-x c = omega arith
 pub overflow_add-counts : goal.overflow_add-counts
 overflow_add-counts c =
     let e : get_or c.loop-x.counts c.loop-x.x 0 ≡ get_or c.args.counts.now c.loop-x.x 0 =
-    now-at c.args.window.now c.args.places.now c.args.counts.now c.requires.0 c.loop-x.x (omega arith) c.loop-x.counts c.loop-x.invariant.1 in
+    now_at c.args.window.now c.args.places.now c.args.counts.now c.requires.0 c.loop-x.x (omega arith) c.loop-x.counts c.loop-x.invariant.1 in
     let b : c.bit_at-more.result ≤ 1 = rw c.bit_at-more.ensures (bit_small _ _) in
     omega (arith, c.requires.1 c.loop-x.x (omega arith))
 

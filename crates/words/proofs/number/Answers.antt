@@ -16,7 +16,7 @@ pub overflow_mul-v : goal.overflow_mul-v
 overflow_mul-v c =
     let a = c.args in
     let l = c.loop-i in
-    record { fits = shifted_fits a.b.now a.at a.n l.i l.v c.loop-i-test.true l.invariant.0 c.requires.1 l.invariant.1 c.requires.0 (c.shared_slice_known-1.given (a.at + (l.i - 1))).fits }
+    record { fits = shifted_fits a.b.now a.at a.n l.i l.v c.loop-i-test.true l.invariant.0 c.requires.1 l.invariant.1 c.requires.0 (c.type_inv.b (a.at + (l.i - 1))).fits }
 
 pub overflow_add-at : goal.overflow_add-at
 overflow_add-at c = search rules
@@ -33,7 +33,7 @@ overflow_add-v c =
     let a = c.args in
     record {
       fits = subst (λ (k : ℕ). l.v * 256 + k < 18446744073709551616) (sym c.wide.ensures)
-          (next_fits a.b.now a.at a.n l.i l.v c.loop-i-test.true l.invariant.0 c.requires.1 l.invariant.1 c.requires.0 (c.shared_slice_known-in-loop-i-1.given (a.at + (l.i - 1))).fits);
+          (next_fits a.b.now a.at a.n l.i l.v c.loop-i-test.true l.invariant.0 c.requires.1 l.invariant.1 c.requires.0 (c.type_inv.b (a.at + (l.i - 1))).fits);
     }
 
 pub loop-i-smaller : goal.loop-i-smaller
@@ -45,7 +45,7 @@ loop-i-preserved c =
     let a = c.args in (
       search rules,
       subst (λ (k : ℕ). Read a.b.now a.at a.n (l.i - 1) (l.v * 256 + k)) (sym c.wide.ensures)
-          (next a.b.now a.at a.n l.i l.v c.loop-i-test.true l.invariant.0 c.requires.1 l.invariant.1 (c.shared_slice_known-in-loop-i-1.given (a.at + (l.i - 1))).fits),
+          (next a.b.now a.at a.n l.i l.v c.loop-i-test.true l.invariant.0 c.requires.1 l.invariant.1 (c.type_inv.b (a.at + (l.i - 1))).fits),
     )
 
 pub returns : goal.returns

@@ -14,10 +14,10 @@ use Rattle.hough.proofs.Counting.{count_none, count_more, count_end}
 use Rattle.hough.proofs.Offsets.{offset_of}
 use Rattle.hough.proofs.votes.vote_pixel.Goals as goal
 
-at-tables : (w x y q : ℕ) (s k : List Float) → s ≡ sine_table → k ≡ cosine_table
+at_tables : (w x y q : ℕ) (s k : List Float) → s ≡ sine_table → k ≡ cosine_table
     → offset_of w (add binary64 (mul binary64 (neg (of_nat x)) (get_or s q nan)) (mul binary64 (of_nat y) (get_or k q nan))) ≡ offset_at w x y q
 unfolding offset_at offset_by
-at-tables w x y q s k e f = rw (e, f)
+at_tables w x y q s k e f = rw (e, f)
 
 pub int_to_float-across : goal.int_to_float-across
 int_to_float-across c = in_float_lem _ (omega arith)
@@ -60,7 +60,7 @@ loop-q-preserved c =
     let sine : a.sines.now ≡ sine_table = c.requires.0.sine in
     let cosine : a.cosines.now ≡ cosine_table = c.requires.0.cosine in
     let e : listed c.vote_at.result ≡ vote_for (of_nat a.w) (offset_at a.w a.x a.y c.loop-q.q) c.loop-q.q =
-    c.vote_at.ensures.0 ∙ ap (λ (z : Float). vote_for (of_nat a.w) z c.loop-q.q) (at-tables a.w a.x a.y c.loop-q.q a.sines.now a.cosines.now sine cosine) in
+    c.vote_at.ensures.0 ∙ ap (λ (z : Float). vote_for (of_nat a.w) z c.loop-q.q) (at_tables a.w a.x a.y c.loop-q.q a.sines.now a.cosines.now sine cosine) in
     (omega arith, c.count_vote-best.auto.votes ∙ c.loop-q.invariant.1, count_more _ _ _ _ c.loop-q.q _ c.loop-q.invariant.2 c.count_vote-best.ensures e)
 
 pub shape_of-votes : goal.shape_of-votes

@@ -1,20 +1,7 @@
 -- `modespec::ModeSpec::radio_lines` meets its contract. Each arm is a case of the definition.
 -- Assumes nothing.
-use Rattle.std.proofs.Common.{rules}
 use Rattle.modespec.specs.Sizes.{radio_lines}
 use Rattle.modespec.proofs.ModeSpec.radio_lines.Goals as goal
-
-pub enum_told-1 : goal.enum_told-1
-enum_told-1 c = search rules
-
-pub enum_told-in-RobotYuv : goal.enum_told-in-RobotYuv
-enum_told-in-RobotYuv c = search rules
-
-pub enum_told-in-RgbSequential : goal.enum_told-in-RgbSequential
-enum_told-in-RgbSequential c = search rules
-
-pub enum_told-in-Monochrome : goal.enum_told-in-Monochrome
-enum_told-in-Monochrome c = search rules
 
 pub returns-in-PdYcbcr : goal.returns-in-PdYcbcr
 unfolding radio_lines

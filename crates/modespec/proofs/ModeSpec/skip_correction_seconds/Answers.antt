@@ -5,12 +5,6 @@ use lib.Ieee.{of_bits}
 use Rattle.modespec.specs.Sizes.{skip_correction, scottie_correction}
 use Rattle.modespec.proofs.ModeSpec.skip_correction_seconds.Goals as goal
 
-pub enum_told-1 : goal.enum_told-1
-enum_told-1 c = search rules
-
-pub enum_told-in-Scottie : goal.enum_told-in-Scottie
-enum_told-in-Scottie c = search rules
-
 pub int_to_float-chan_len : goal.int_to_float-chan_len
 int_to_float-chan_len c = search rules
 

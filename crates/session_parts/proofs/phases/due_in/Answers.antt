@@ -6,12 +6,12 @@ use Rattle.plain.specs.Plain.{window_of}
 use Rattle.session_parts.specs.Phases.{DueIn}
 use Rattle.session_parts.proofs.phases.due_in.Goals as goal
 
-due-first : (mode taken w : ℕ) → w ≡ window_of mode → taken < w → DueIn mode taken (w - taken)
-due-first mode taken w e h =
+due_first : (mode taken w : ℕ) → w ≡ window_of mode → taken < w → DueIn mode taken (w - taken)
+due_first mode taken w e h =
     record { some = omega arith; none = λ k lo hi. rw (lt-leb (window_of mode) k (omega arith)) }
 
-due-later : (mode taken w : ℕ) → w ≡ window_of mode → w ≤ taken → DueIn mode taken (64 - (taken - w) % 64)
-due-later mode taken w e h =
+due_later : (mode taken w : ℕ) → w ≡ window_of mode → w ≤ taken → DueIn mode taken (64 - (taken - w) % 64)
+due_later mode taken w e h =
     record {
       some = omega arith;
       none = λ k lo hi.
@@ -20,7 +20,7 @@ due-later mode taken w e h =
     }
 
 pub returns-then-taken-w : goal.returns-then-taken-w
-returns-then-taken-w c = due-first c.args.mode c.args.taken c.window-w.result c.window-w.ensures.is c.if-taken-w.true
+returns-then-taken-w c = due_first c.args.mode c.args.taken c.window-w.result c.window-w.ensures.is c.if-taken-w.true
 
 pub returns : goal.returns
-returns c = due-later c.args.mode c.args.taken c.window-w.result c.window-w.ensures.is c.if-taken-w.false
+returns c = due_later c.args.mode c.args.taken c.window-w.result c.window-w.ensures.is c.if-taken-w.false
