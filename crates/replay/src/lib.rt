@@ -6,7 +6,8 @@
 pub mod lists;
 pub mod tally;
 
-ghost use Rattle.std.specs.Prelude.{◌≡◌, ◌/◌, ◌≤◌, min, ◌++◌, length, drop, IfOk};
+ghost use Rattle.std.specs.Prelude.{◌≡◌, ◌/◌, ◌≤◌, min, ◌++◌, length, drop, take, ◌<◌, IfOk};
+ghost use Rattle.std.specs.Io.KnownBytes.{Consumes, IsAtEnd};
 ghost use Rattle.words.specs.Words.{half_word_at, float32_at};
 ghost use Rattle.replay.specs.Each.{each};
 
@@ -60,8 +61,10 @@ pub fn opened<R: Files + Eprint>(rt: &R, path: &str) -> Option<R::File> {
 }
 
 // Reads until `out` is full or the file ends, and answers how many bytes it put at the front of `out`.
-fn read_full(file: &mut impl Read, out: &mut [u8]) -> io::Result<usize>
-    ensures { IfOk result (λ n. n ≤ length out.new) }
+fn read_full<R: Read>(file: &mut R, out: &mut [u8]) -> io::Result<usize>
+    ensures bound { IfOk result (λ n. n ≤ length out.new) }
+    ensures bytes { IfOk result (λ n. Consumes (R.remaining file.old) (R.remaining file.new) (take n out.new)) }
+    ensures end { IfOk result (λ n. n < length out.new → IsAtEnd (R.remaining file.new)) }
 {
     let mut done = 0;
     while done < out.len() {
