@@ -2,7 +2,7 @@
 -- Each is the list of the bits that the Rust gives on the comparing machine, and the floats that they stand for. Definitions only.
 use Rattle.std.specs.Prelude.{ℕ, List, [], ◌∷◌, map, Float}
 use Rattle.std.specs.Float.{binary64}
-use Rattle.std.specs.Float.Ieee.{of_bits}
+unfoldable pub use Rattle.std.specs.Float.Ieee.{of_bits}
 
 unfoldable pub sine_bits : List ℕ
 sine_bits =

@@ -1,24 +1,23 @@
--- What column counts tell, as the C records say it (include/funnelivy.h; 01-scope.md, "Fold and pulse window"). Definitions only.
-use Rattle.std.specs.Prelude.{false, pos}
+-- The columns of a mode's pulse, and what column counts tell, as the C records say them (include/funnelivy.h; 01-scope.md, "Fold and pulse
+-- window"). Definitions only.
+use Rattle.std.specs.Prelude.{ℕ, false, pos, Float, Result, Ok, Err}
 use Rattle.std.specs.Float.{fin}
-use Rattle.pulse.specs.declared.WindowAnswer.{WindowAnswer}
-use Rattle.pulse.specs.declared.WindowAnswer.TheVariants as window
-use Rattle.pulse.specs.declared.QualityAnswer.{QualityAnswer}
-use Rattle.pulse.specs.declared.QualityAnswer.TheVariants as quality
-use Rattle.pulse.specs.declared.EdgeAnswer.{EdgeAnswer}
-use Rattle.pulse.specs.declared.EdgeAnswer.TheVariants as edge
+use Rattle.limits.specs.declared.Refusal.{Refusal}
+use Rattle.limits.specs.Refusals.{number_of}
+use Rattle.pulse.specs.declared.BestWindow.{BestWindow}
 use Rattle.c_answer.specs.declared.FunnelivyColumnsAnswer.{FunnelivyColumnsAnswer}
 use Rattle.c_answer.specs.declared.FunnelivyWindowAnswer.{FunnelivyWindowAnswer}
 use Rattle.c_answer.specs.declared.FunnelivyQualityAnswer.{FunnelivyQualityAnswer}
 
-abbrev pub window_wire : WindowAnswer → FunnelivyWindowAnswer
-window_wire (window.Found best) = record { refusal = 0; start = best.start; sum = best.sum; windows = best.windows }
-window_wire (window.Refused k) = record { refusal = k; start = 0; sum = 0; windows = 0 }
+-- the columns of a pulse, and the column of the falling edge
+abbrev pub columns_wire : Result ℕ Refusal → FunnelivyColumnsAnswer
+columns_wire (Ok n) = record { refusal = 0; columns = n }
+columns_wire (Err e) = record { refusal = number_of e; columns = 0 }
 
-abbrev pub quality_wire : QualityAnswer → FunnelivyQualityAnswer
-quality_wire (quality.Quality q) = record { refusal = 0; quality = q }
-quality_wire (quality.Refused k) = record { refusal = k; quality = fin false 0 (pos 0) }
+abbrev pub window_wire : Result BestWindow Refusal → FunnelivyWindowAnswer
+window_wire (Ok best) = record { refusal = 0; start = best.start; sum = best.sum; windows = best.windows }
+window_wire (Err e) = record { refusal = number_of e; start = 0; sum = 0; windows = 0 }
 
-abbrev pub edge_wire : EdgeAnswer → FunnelivyColumnsAnswer
-edge_wire (edge.Column x) = record { refusal = 0; columns = x }
-edge_wire (edge.Refused k) = record { refusal = k; columns = 0 }
+abbrev pub quality_wire : Result Float Refusal → FunnelivyQualityAnswer
+quality_wire (Ok q) = record { refusal = 0; quality = q }
+quality_wire (Err e) = record { refusal = number_of e; quality = fin false 0 (pos 0) }

@@ -1,55 +1,61 @@
-// What the column counts of a fold tell, as records of numbers.
+// The columns of a pulse, and what the column counts of a fold tell, as records of numbers.
 ghost use Rattle.std.specs.Prelude.{◌≡◌};
-ghost use Rattle.c_answer.specs.Counts.{window_wire, quality_wire, edge_wire};
+ghost use Rattle.c_answer.specs.Counts.{columns_wire, window_wire, quality_wire};
 
 use crate::{FunnelivyColumnsAnswer, FunnelivyQualityAnswer, FunnelivyWindowAnswer};
-use pulse::{EdgeAnswer, QualityAnswer, WindowAnswer};
+use limits::Refusal;
+use pulse::BestWindow;
 
-pub fn window_wire(answer: WindowAnswer) -> FunnelivyWindowAnswer
-    ensures { result ≡ window_wire answer }
-{
-    match answer {
-        WindowAnswer::Found(best) => FunnelivyWindowAnswer {
-            refusal: 0,
-            start: best.start as u64,
-            sum: best.sum,
-            windows: best.windows as u64,
-        },
-        WindowAnswer::Refused(number) => FunnelivyWindowAnswer {
-            refusal: number as u32,
-            start: 0,
-            sum: 0,
-            windows: 0,
-        },
+// The columns of a mode's pulse, or the column of the falling edge.
+impl From<Result<usize, Refusal>> for FunnelivyColumnsAnswer {
+    ghost from_gives = { λ answer r. r ≡ columns_wire answer };
+
+    fn from(answer: Result<usize, Refusal>) -> FunnelivyColumnsAnswer {
+        match answer {
+            Ok(columns) => FunnelivyColumnsAnswer {
+                refusal: 0,
+                columns: columns as u64,
+            },
+            Err(refusal) => FunnelivyColumnsAnswer {
+                refusal: refusal.number() as u32,
+                ..Default::default()
+            },
+        }
     }
 }
 
-pub fn quality_wire(answer: QualityAnswer) -> FunnelivyQualityAnswer
-    ensures { result ≡ quality_wire answer }
-{
-    match answer {
-        QualityAnswer::Quality(quality) => FunnelivyQualityAnswer {
-            refusal: 0,
-            quality: quality,
-        },
-        QualityAnswer::Refused(number) => FunnelivyQualityAnswer {
-            refusal: number as u32,
-            quality: 0.0,
-        },
+impl From<Result<BestWindow, Refusal>> for FunnelivyWindowAnswer {
+    ghost from_gives = { λ answer r. r ≡ window_wire answer };
+
+    fn from(answer: Result<BestWindow, Refusal>) -> FunnelivyWindowAnswer {
+        match answer {
+            Ok(best) => FunnelivyWindowAnswer {
+                refusal: 0,
+                start: best.start as u64,
+                sum: best.sum,
+                windows: best.windows as u64,
+            },
+            Err(refusal) => FunnelivyWindowAnswer {
+                refusal: refusal.number() as u32,
+                ..Default::default()
+            },
+        }
     }
 }
 
-pub fn edge_wire(answer: EdgeAnswer) -> FunnelivyColumnsAnswer
-    ensures { result ≡ edge_wire answer }
-{
-    match answer {
-        EdgeAnswer::Column(column) => FunnelivyColumnsAnswer {
-            refusal: 0,
-            columns: column as u64,
-        },
-        EdgeAnswer::Refused(number) => FunnelivyColumnsAnswer {
-            refusal: number as u32,
-            columns: 0,
-        },
+impl From<Result<f32, Refusal>> for FunnelivyQualityAnswer {
+    ghost from_gives = { λ answer r. r ≡ quality_wire answer };
+
+    fn from(answer: Result<f32, Refusal>) -> FunnelivyQualityAnswer {
+        match answer {
+            Ok(quality) => FunnelivyQualityAnswer {
+                refusal: 0,
+                quality,
+            },
+            Err(refusal) => FunnelivyQualityAnswer {
+                refusal: refusal.number() as u32,
+                ..Default::default()
+            },
+        }
     }
 }

@@ -4,11 +4,10 @@
 
 pub mod counts;
 pub mod report;
-pub mod sizes;
 pub mod sound;
 
 #[repr(C)]
-#[derive(Clone, Copy)]
+#[derive(Clone, Copy, Default)]
 pub struct FunnelivySizesAnswer {
     pub refusal: u32,
     pub window: u64,
@@ -16,14 +15,14 @@ pub struct FunnelivySizesAnswer {
 }
 
 #[repr(C)]
-#[derive(Clone, Copy)]
+#[derive(Clone, Copy, Default)]
 pub struct FunnelivyColumnsAnswer {
     pub refusal: u32,
     pub columns: u64,
 }
 
 #[repr(C)]
-#[derive(Clone, Copy)]
+#[derive(Clone, Copy, Default)]
 pub struct FunnelivyWindowAnswer {
     pub refusal: u32,
     pub start: u64,
@@ -32,14 +31,14 @@ pub struct FunnelivyWindowAnswer {
 }
 
 #[repr(C)]
-#[derive(Clone, Copy)]
+#[derive(Clone, Copy, Default)]
 pub struct FunnelivyQualityAnswer {
     pub refusal: u32,
     pub quality: f32,
 }
 
 #[repr(C)]
-#[derive(Clone, Copy)]
+#[derive(Clone, Copy, Default)]
 pub struct FunnelivyReportAnswer {
     pub refusal: u32,
     pub has_slant: u32,
@@ -50,7 +49,7 @@ pub struct FunnelivyReportAnswer {
 }
 
 #[repr(C)]
-#[derive(Clone, Copy)]
+#[derive(Clone, Copy, Default)]
 pub struct FunnelivyDecisionAnswer {
     pub refusal: u32,
     pub has_sync: u32,

@@ -3,32 +3,30 @@ ghost use Rattle.std.specs.Prelude.{◌≡◌};
 ghost use Rattle.c_answer.specs.Sound.{refusal_of, decision_wire};
 
 use crate::FunnelivyDecisionAnswer;
-use probe::{ProbeAnswer, WindowAnswer};
+use limits::Refusal;
 
-pub fn refusal_of(answer: WindowAnswer) -> u32
+pub fn refusal_of(answer: Result<(), Refusal>) -> u32
     ensures { result ≡ refusal_of answer }
 {
     match answer {
-        WindowAnswer::Filled => 0,
-        WindowAnswer::Refused(number) => number as u32,
+        Ok(()) => 0,
+        Err(refusal) => refusal.number() as u32,
     }
 }
 
-pub fn decision_wire(answer: ProbeAnswer) -> FunnelivyDecisionAnswer
-    ensures { result ≡ decision_wire answer }
-{
-    match answer {
-        ProbeAnswer::Yes => FunnelivyDecisionAnswer {
-            refusal: 0,
-            has_sync: 1,
-        },
-        ProbeAnswer::No => FunnelivyDecisionAnswer {
-            refusal: 0,
-            has_sync: 0,
-        },
-        ProbeAnswer::Refused(number) => FunnelivyDecisionAnswer {
-            refusal: number as u32,
-            has_sync: 0,
-        },
+impl From<Result<bool, Refusal>> for FunnelivyDecisionAnswer {
+    ghost from_gives = { λ answer r. r ≡ decision_wire answer };
+
+    fn from(answer: Result<bool, Refusal>) -> FunnelivyDecisionAnswer {
+        match answer {
+            Ok(has_sync) => FunnelivyDecisionAnswer {
+                refusal: 0,
+                has_sync: has_sync as u32,
+            },
+            Err(refusal) => FunnelivyDecisionAnswer {
+                refusal: refusal.number() as u32,
+                ..Default::default()
+            },
+        }
     }
 }

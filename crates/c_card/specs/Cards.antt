@@ -1,14 +1,10 @@
 -- A ledger card as a record of numbers, what card any such record says, and the answers of the card calls (include/funnelivy.h;
 -- 02-change-requests.md, A.1). Definitions only.
-use Rattle.std.specs.Prelude.{ℕ, false, pos}
+use Rattle.std.specs.Prelude.{ℕ, false, pos, Result, Ok, Err}
 use Rattle.std.specs.Float.{fin}
+use Rattle.limits.specs.declared.Refusal.{Refusal}
+use Rattle.limits.specs.Refusals.{number_of}
 use Rattle.card.specs.declared.Card.{Card}
-use Rattle.card.specs.declared.Written.{Written}
-use Rattle.card.specs.declared.Written.TheVariants as written
-use Rattle.card.specs.declared.CardRead.{CardRead}
-use Rattle.card.specs.declared.CardRead.TheVariants as read
-use Rattle.ledger.specs.declared.SessionCard.{SessionCard}
-use Rattle.ledger.specs.declared.SessionCard.TheVariants as session
 use Rattle.c_card.specs.declared.FunnelivyCard.{FunnelivyCard}
 use Rattle.c_card.specs.declared.FunnelivyCardAnswer.{FunnelivyCardAnswer}
 
@@ -71,14 +67,11 @@ refused_by k = record { refusal = k; card = no_card }
 -- ---- the answers
 
 -- the refusal's number, 0 where the card was written
-abbrev pub written_wire : Written → ℕ
-written_wire written.Done = 0
-written_wire (written.Refused k) = k
+abbrev pub written_wire : Result Unit Refusal → ℕ
+written_wire (Ok u) = 0
+written_wire (Err e) = number_of e
 
-abbrev pub read_wire : CardRead → FunnelivyCardAnswer
-read_wire (read.Holds c) = holding c
-read_wire (read.Refused k) = refused_by k
-
-abbrev pub session_card_wire : SessionCard → FunnelivyCardAnswer
-session_card_wire (session.Of c) = holding c
-session_card_wire (session.Refused k) = refused_by k
+-- the card that was read, or the card of a session
+abbrev pub read_wire : Result Card Refusal → FunnelivyCardAnswer
+read_wire (Ok c) = holding c
+read_wire (Err e) = refused_by (number_of e)

@@ -3,14 +3,14 @@
 #![tactic(auto)]
 
 ghost use Rattle.std.specs.Prelude.{◌≡◌};
-ghost use Rattle.c_card.specs.Cards.{card_of_wire, card_wire, holding, refused_by, written_wire, read_wire, session_card_wire};
+ghost use Rattle.c_card.specs.Cards.{card_of_wire, card_wire, written_wire, read_wire};
 
-use card::{Card, CardRead, Written};
-use ledger::SessionCard;
+use card::Card;
+use limits::Refusal;
 
 // What a card holds: `card::Card`, with the widest fields first.
 #[repr(C)]
-#[derive(Clone, Copy)]
+#[derive(Clone, Copy, Default)]
 pub struct FunnelivyCard {
     pub taken: u64,
     pub evaluations: u64,
@@ -25,7 +25,7 @@ pub struct FunnelivyCard {
 }
 
 #[repr(C)]
-#[derive(Clone, Copy)]
+#[derive(Clone, Copy, Default)]
 pub struct FunnelivyCardAnswer {
     pub refusal: u32,
     pub card: FunnelivyCard,
@@ -33,96 +33,72 @@ pub struct FunnelivyCardAnswer {
 
 // ---- from the record
 
-pub fn card_of_wire(w: FunnelivyCard) -> Card
-    ensures { result ≡ card_of_wire w }
-{
-    Card {
-        mode: w.mode,
-        end: w.end,
-        taken: w.taken,
-        evaluations: w.evaluations,
-        start: w.start,
-        start_quality: w.start_quality,
-        rate: w.rate,
-        slant: w.slant,
-        skip: w.skip,
-        quality: w.quality,
+impl From<FunnelivyCard> for Card {
+    ghost from_gives = { λ w card. card ≡ card_of_wire w };
+
+    fn from(w: FunnelivyCard) -> Card {
+        Card {
+            mode: w.mode,
+            end: w.end,
+            taken: w.taken,
+            evaluations: w.evaluations,
+            start: w.start,
+            start_quality: w.start_quality,
+            rate: w.rate,
+            slant: w.slant,
+            skip: w.skip,
+            quality: w.quality,
+        }
     }
 }
 
 // ---- to the record
 
-pub fn card_wire(card: Card) -> FunnelivyCard
-    ensures { result ≡ card_wire card }
-{
-    FunnelivyCard {
-        taken: card.taken,
-        evaluations: card.evaluations,
-        start: card.start,
-        skip: card.skip,
-        rate: card.rate,
-        start_quality: card.start_quality,
-        quality: card.quality,
-        mode: card.mode,
-        end: card.end,
-        slant: card.slant,
-    }
-}
+impl From<Card> for FunnelivyCard {
+    ghost from_gives = { λ card w. w ≡ card_wire card };
 
-fn holding_card(card: Card) -> FunnelivyCardAnswer
-    ensures { result ≡ holding card }
-{
-    FunnelivyCardAnswer {
-        refusal: 0,
-        card: card_wire(card),
-    }
-}
-
-fn refused_by(number: u8) -> FunnelivyCardAnswer
-    ensures { result ≡ refused_by number }
-{
-    FunnelivyCardAnswer {
-        refusal: number as u32,
-        card: FunnelivyCard {
-            taken: 0,
-            evaluations: 0,
-            start: 0,
-            skip: 0,
-            rate: 0.0,
-            start_quality: 0.0,
-            quality: 0.0,
-            mode: 0,
-            end: 0,
-            slant: 0,
-        },
+    fn from(card: Card) -> FunnelivyCard {
+        FunnelivyCard {
+            taken: card.taken,
+            evaluations: card.evaluations,
+            start: card.start,
+            skip: card.skip,
+            rate: card.rate,
+            start_quality: card.start_quality,
+            quality: card.quality,
+            mode: card.mode,
+            end: card.end,
+            slant: card.slant,
+        }
     }
 }
 
 // ---- the answers
 
-pub fn written_wire(answer: Written) -> u32
+// The refusal's number, 0 where the card was written. `c_answer` has the same for a window, but this crate does not stand on it.
+pub fn written_wire(answer: Result<(), Refusal>) -> u32
     ensures { result ≡ written_wire answer }
 {
     match answer {
-        Written::Done => 0,
-        Written::Refused(number) => number as u32,
+        Ok(()) => 0,
+        Err(refusal) => refusal.number() as u32,
     }
 }
 
-pub fn read_wire(answer: CardRead) -> FunnelivyCardAnswer
-    ensures { result ≡ read_wire answer }
-{
-    match answer {
-        CardRead::Holds(card) => holding_card(card),
-        CardRead::Refused(number) => refused_by(number),
-    }
-}
+// The card that was read, or the card of a session.
+impl From<Result<Card, Refusal>> for FunnelivyCardAnswer {
+    ghost from_gives = { λ answer r. r ≡ read_wire answer };
 
-pub fn session_card_wire(answer: SessionCard) -> FunnelivyCardAnswer
-    ensures { result ≡ session_card_wire answer }
-{
-    match answer {
-        SessionCard::Of(card) => holding_card(card),
-        SessionCard::Refused(number) => refused_by(number),
+    fn from(answer: Result<Card, Refusal>) -> FunnelivyCardAnswer {
+        match answer {
+            Ok(card) => FunnelivyCardAnswer {
+                refusal: 0,
+                card: card.into(),
+            },
+            Err(refusal) => FunnelivyCardAnswer {
+                refusal: refusal.number() as u32,
+                ..Default::default()
+            },
+        }
     }
 }

@@ -5,8 +5,7 @@ use mathlib.Core.Path.{◌≡◌, refl}
 use Prim.Native.Nat.{ℕ}
 use lib.IntN.{ℤ}
 use lib.Ieee.{Float}
-use Rattle.hough.specs.declared.SlantDeg.{SlantDeg}
-use Rattle.hough.specs.declared.SlantDeg.TheVariants.{None, Degrees}
+use Rattle.std.specs.Prelude.{Option, None, Some}
 use Rattle.sync.specs.declared.SyncResult.{SyncResult}
 use Rattle.plain.specs.declared.Start.{Start}
 use Rattle.plain.specs.declared.Phase.{Phase}
@@ -17,14 +16,14 @@ use Rattle.c_record.specs.Record.{session_of, session_wire}
 abbrev made : (mode anchor capacity taken evaluations streak : ℕ) → Phase → Session
 made m a c t e k h = record { mode = m; anchor = a; capacity = c; taken = t; evaluations = e; streak = k; phase = h }
 
-abbrev report : Float → ℤ → SlantDeg → Float → SyncResult
+abbrev report : Float → ℤ → Option Float → Float → SyncResult
 report rate skip slant quality =
     record { adjusted_rate_hz = rate; skip_samples = skip; slant_deg = slant; sync_quality = quality }
 
-reported : (m a c t e k : ℕ) (x : Start) (rate : Float) (skip : ℤ) (slant : SlantDeg) (quality : Float)
+reported : (m a c t e k : ℕ) (x : Start) (rate : Float) (skip : ℤ) (slant : Option Float) (quality : Float)
     → let s = made m a c t e k (Reported x (report rate skip slant quality)) in session_of (session_wire s) ≡ s
 reported m a c t e k x rate skip None quality = refl
-reported m a c t e k x rate skip (Degrees d) quality = refl
+reported m a c t e k x rate skip (Some d) quality = refl
 
 by_phase : (m a c t e k : ℕ) (h : Phase) → session_of (session_wire (made m a c t e k h)) ≡ made m a c t e k h
 by_phase m a c t e k Searching = refl

@@ -1,8 +1,6 @@
 -- A session as a record of numbers, and what session any such record says (include/funnelivy.h). Definitions only.
-use Rattle.std.specs.Prelude.{ℕ, false, cond, eqb, pos, Float}
+use Rattle.std.specs.Prelude.{ℕ, false, cond, eqb, pos, Float, Option, None, Some}
 use Rattle.std.specs.Float.{fin}
-use Rattle.hough.specs.declared.SlantDeg.{SlantDeg}
-use Rattle.hough.specs.declared.SlantDeg.TheVariants.{None, Degrees}
 use Rattle.sync.specs.declared.SyncResult.{SyncResult}
 use Rattle.plain.specs.declared.Start.{Start}
 use Rattle.plain.specs.declared.Phase.{Phase}
@@ -14,8 +12,8 @@ use Rattle.c_answer.specs.Report.{has_slant, degrees_of}
 -- ---- from the record
 
 -- any number but 0 means a slant
-abbrev pub slant_of : ℕ → Float → SlantDeg
-slant_of has slant = cond (eqb has 0) None (Degrees slant)
+abbrev pub slant_of : ℕ → Float → Option Float
+slant_of has slant = cond (eqb has 0) None (Some slant)
 
 abbrev pub start_of : FunnelivySession → Start
 start_of w = record { position = w.position; quality = w.start_quality; windows = w.windows }

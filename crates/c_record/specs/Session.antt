@@ -1,14 +1,13 @@
 -- The answers of open, feed and read as the C records say them (include/funnelivy.h; 01-scope.md, "Session"). Definitions only.
-use Rattle.std.specs.Prelude.{ℕ, false, pos, Float}
+use Rattle.std.specs.Prelude.{ℕ, false, pos, Float, Result, Ok, Err}
 use Rattle.std.specs.Float.{fin}
+use Rattle.limits.specs.declared.Refusal.{Refusal}
+use Rattle.limits.specs.Refusals.{number_of}
 use Rattle.plain.specs.declared.End.{End}
 use Rattle.plain.specs.declared.End.TheVariants as end
-use Rattle.session.specs.declared.Opened.{Opened}
-use Rattle.session.specs.declared.Opened.TheVariants as opened
+use Rattle.plain.specs.declared.Reading.{Reading}
+use Rattle.session.specs.declared.Session.{Session}
 use Rattle.session.specs.declared.Fed.{Fed}
-use Rattle.session.specs.declared.Fed.TheVariants as fed
-use Rattle.session.specs.declared.Given.{Given}
-use Rattle.session.specs.declared.Given.TheVariants as given
 use Rattle.c_record.specs.declared.FunnelivyOpened.{FunnelivyOpened}
 use Rattle.c_record.specs.declared.FunnelivyFed.{FunnelivyFed}
 use Rattle.c_record.specs.declared.FunnelivyReading.{FunnelivyReading}
@@ -17,15 +16,15 @@ use Rattle.c_record.specs.Record.{session_wire, no_session}
 
 -- ---- open
 
-abbrev pub opened_wire : Opened → FunnelivyOpened
-opened_wire (opened.Ready s) = record { refusal = 0; session = session_wire s }
-opened_wire (opened.Refused k) = record { refusal = k; session = no_session }
+abbrev pub opened_wire : Result Session Refusal → FunnelivyOpened
+opened_wire (Ok s) = record { refusal = 0; session = session_wire s }
+opened_wire (Err e) = record { refusal = number_of e; session = no_session }
 
 -- ---- feed
 
-abbrev pub fed_wire : Fed → FunnelivyFed
-fed_wire (fed.Took n s) = record { refusal = 0; taken = n; session = session_wire s }
-fed_wire (fed.Refused k) = record { refusal = k; taken = 0; session = no_session }
+abbrev pub fed_wire : Result Fed Refusal → FunnelivyFed
+fed_wire (Ok f) = record { refusal = 0; taken = f.taken; session = session_wire f.session }
+fed_wire (Err e) = record { refusal = number_of e; taken = 0; session = no_session }
 
 -- ---- read
 
@@ -67,6 +66,6 @@ end_wire (end.Reported start windows start_quality rate slant skip quality) take
 end_wire end.Unfound taken evaluations = unreported 0 1 taken evaluations 0 0 (fin false 0 (pos 0))
 end_wire (end.CutShort start windows start_quality) taken evaluations = unreported 0 2 taken evaluations start windows start_quality
 
-abbrev pub reading_wire : Given → FunnelivyReading
-reading_wire (given.Gave g) = end_wire g.end g.taken g.evaluations
-reading_wire (given.Refused k) = unreported k 0 0 0 0 0 (fin false 0 (pos 0))
+abbrev pub reading_wire : Result Reading Refusal → FunnelivyReading
+reading_wire (Ok g) = end_wire g.end g.taken g.evaluations
+reading_wire (Err e) = unreported (number_of e) 0 0 0 0 0 (fin false 0 (pos 0))

@@ -2,12 +2,12 @@
 // A record has the refusal's number or 0, and 0 in every field that the answer does not have.
 #![tactic(auto)]
 
-pub mod calls;
-pub mod record;
+mod calls;
+mod record;
 
 // A session, kept by the host and handed back to the next call.
 #[repr(C)]
-#[derive(Clone, Copy)]
+#[derive(Clone, Copy, Default)]
 pub struct FunnelivySession {
     pub anchor: u64,
     pub capacity: u64,
@@ -27,14 +27,14 @@ pub struct FunnelivySession {
 }
 
 #[repr(C)]
-#[derive(Clone, Copy)]
+#[derive(Clone, Copy, Default)]
 pub struct FunnelivyOpened {
     pub refusal: u32,
     pub session: FunnelivySession,
 }
 
 #[repr(C)]
-#[derive(Clone, Copy)]
+#[derive(Clone, Copy, Default)]
 pub struct FunnelivyFed {
     pub refusal: u32,
     pub taken: u64,
@@ -42,7 +42,7 @@ pub struct FunnelivyFed {
 }
 
 #[repr(C)]
-#[derive(Clone, Copy)]
+#[derive(Clone, Copy, Default)]
 pub struct FunnelivyReading {
     pub refusal: u32,
     pub end: u32,

@@ -2,13 +2,16 @@
 use mathlib.Core.Path.{◌≡◌, refl}
 use mathlib.Core.Bool.{Bool, true, false}
 use mathlib.Core.List.{List, [], ◌∷◌}
-use Prim.Native.Nat.{ℕ, ◌+◌, ◌-◌, ◌^◌}
+use Prim.Native.Nat.{◌+◌, ◌-◌, ◌^◌}
 use lib.IntN.{pos, negsuc}
 use lib.ListN.{take, set}
 use lib.Ieee.{nan, inf, fin, binary32, lt, le, to_bits, of_bits}
+use Rattle.std.specs.Prelude.{Result, Ok, Err}
+use Rattle.limits.specs.declared.Refusal.{Refusal}
+use Rattle.limits.specs.declared.Refusal.TheVariants as why
 use Rattle.words.specs.Words.{little_endian, bytes_of}
 use Rattle.card.specs.declared.Card.{Card}
-use Rattle.card.specs.Card.{head_bytes, count_bytes, report_bytes, card_bytes, card_of, marked, filled, start_filled, report_filled, lacked_filled, within, positive, near, between, wrong, read_code}
+use Rattle.card.specs.Card.{head_bytes, count_bytes, report_bytes, card_bytes, card_of, marked, filled, start_filled, report_filled, lacked_filled, within, positive, near, between, wrong, read_refusal}
 
 -- mode 3, reported, start quality 1.0, 11,025.0 Hz, slant index 120, skip -2, image quality 0.5
 abbrev example : Card
@@ -40,18 +43,18 @@ unfolding card_bytes head_bytes count_bytes report_bytes bytes_of to_bits
 example_bytes = refl
 
 -- the reader on these bytes, as they are; with mode 16; with that and another mark; with version 2; with their last byte missing
-abbrev codes : List ℕ
-codes =
-    read_code (card_bytes example)
-    ∷ read_code (set (card_bytes example) 5 16)
-    ∷ read_code (set (set (card_bytes example) 5 16) 0 0)
-    ∷ read_code (set (card_bytes example) 3 2)
-    ∷ read_code (take 55 (set (card_bytes example) 3 2))
+abbrev refusals : List (Result Unit Refusal)
+refusals =
+    read_refusal (card_bytes example)
+    ∷ read_refusal (set (card_bytes example) 5 16)
+    ∷ read_refusal (set (set (card_bytes example) 5 16) 0 0)
+    ∷ read_refusal (set (card_bytes example) 3 2)
+    ∷ read_refusal (take 55 (set (card_bytes example) 3 2))
     ∷ []
 
-pub example_codes : codes ≡ 0 ∷ 14 ∷ 13 ∷ 13 ∷ 12 ∷ []
-unfolding card_bytes head_bytes count_bytes report_bytes bytes_of to_bits read_code marked wrong lacked_filled start_filled report_filled between within positive near card_of little_endian of_bits le lt
-example_codes = refl
+pub example_refusals : refusals ≡ Ok tt ∷ Err why.CardField ∷ Err why.CardMark ∷ Err why.CardMark ∷ Err why.CardLength ∷ []
+unfolding card_bytes head_bytes count_bytes report_bytes bytes_of to_bits read_refusal marked wrong lacked_filled start_filled report_filled between within positive near card_of little_endian of_bits le lt
+example_refusals = refl
 
 -- 0, -0 and 1 are from 0 to 1; the next float above 1, the first below 0 and a NaN are not
 abbrev qualities : List Bool

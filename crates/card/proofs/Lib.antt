@@ -1,6 +1,5 @@
 -- What the proofs of several functions use, and laws of cards.
 mod Parts
-mod Calls
 mod NoNan
 mod Examples
 pub mod Accepted

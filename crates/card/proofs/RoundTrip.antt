@@ -1,15 +1,18 @@
 -- A card that is read writes back as the same bytes, a card that is written reads back as the same card, and the writer takes exactly the cards that some bytes read as. Assumes nothing.
 use mathlib.Core.Path.{◌≡◌, refl, sym, ap, ◌∙◌}
-use mathlib.Core.Bool.{Bool, true, false, not, cond, ◌&&◌, false≢true}
+use mathlib.Core.Bool.{Bool, true, false, not, ◌&&◌, false≢true}
 use mathlib.Core.List.{List, [], ◌∷◌, append_assoc, append-nil}
 use Prim.Native.Nat.{ℕ, ◌*◌, ◌^◌, ◌<◌}
-use native.Mathlib.Omega.{arith}
 use lib.Dec.{T, eqb, lit<}
 use lib.ListN.{length, get_or, length-append}
 use lib.Signed.{mag}
 use lib.Ieee.{binary32, binary64, top, fits, to_bits}
 use lib.Ieee.Bits.{of_bits-to_bits, of_bits-fits, to_bits-lt, to_bits-of_bits}
 use borrow.Author.Tests.{eqb-true, eq-eqb, not-false}
+use Rattle.std.specs.Prelude.{Result, Ok, Err}
+use Rattle.std.specs.Result.{result_and}
+use Rattle.limits.specs.declared.Refusal.{Refusal}
+use Rattle.limits.specs.declared.Refusal.TheVariants as why
 use Rattle.limits.proofs.Causes as causes
 use Rattle.words.specs.Words.{number_at, bits_of}
 use Rattle.words.proofs.RoundTrip.{Bytes, signed_bits, bits_signed, signed_small, bits_small}
@@ -17,9 +20,7 @@ use Rattle.words.proofs.Packing.{packed, numbers_from, total, packed_bytes, numb
 use Rattle.card.proofs.NoNan.{numbers_in}
 use Rattle.card.proofs.Parts.{length_head, length_counts, length_report}
 use Rattle.card.specs.declared.Card.{Card}
-use Rattle.card.specs.declared.Written.TheVariants as written
-use Rattle.card.specs.declared.CardRead.TheVariants as read
-use Rattle.card.specs.Card.{mark, head_bytes, count_bytes, report_bytes, card_bytes, marked, card_of, wrong, write_code, read_code, write_answer, buffer_after, read_answer}
+use Rattle.card.specs.Card.{mark, head_bytes, count_bytes, report_bytes, card_bytes, marked, card_of, wrong, write_answer, buffer_after, read_refusal, read_answer}
 
 -- ---- the fields as numbers
 
@@ -84,41 +85,34 @@ pub record Read (bs : List ℕ) (c : Card) : Type 0 where
   pub fine : wrong (card_of bs) ≡ false
   pub is : card_of bs ≡ c
 
-pub was_read : (bs : List ℕ) (c : Card) → read_answer bs ≡ read.Holds c → Read bs c
-unfolding read_answer read_code
-was_read bs c e = go (eqb (read_code bs) 0) refl e
+pub was_read : (bs : List ℕ) (c : Card) → read_answer bs ≡ Ok c → Read bs c
+unfolding read_answer read_refusal
+was_read bs c e = go (read_refusal bs) refl e
   where
-    accepted : read_code bs ≡ 0 → card_of bs ≡ c → Read bs c
+    accepted : read_refusal bs ≡ Ok tt → card_of bs ≡ c → Read bs c
     accepted z e =
-        let a = causes.none (not (eqb (length bs) 56)) 12 _ (lit< tt) z in
-        let b = causes.none (not (marked 1 bs)) 13 _ (lit< tt) a.1 in
-        let d = causes.none (wrong (card_of bs)) 14 _ (lit< tt) b.1 in
+        let a = causes.none (not (eqb (length bs) 56)) why.CardLength _ z in
+        let b = causes.none (not (marked 1 bs)) why.CardMark _ a.1 in
+        let d = causes.none (wrong (card_of bs)) why.CardField _ b.1 in
         record { size = eqb-true (length bs) 56 (not-false _ a.0); mark = not-false _ b.0; fine = d.0; is = e }
 
-    go : (t : Bool) → eqb (read_code bs) 0 ≡ t → cond t (read.Holds (card_of bs)) (read.Refused (read_code bs)) ≡ read.Holds c → Read bs c
-    go true z e = accepted (eqb-true (read_code bs) 0 z) (cc)
-    go false z e = absurd (let n : ◌≡◌ {A = ℕ} 0 1 = cc in omega arith)
+    go : (t : Result Unit Refusal) → read_refusal bs ≡ t → result_and t (Ok (card_of bs)) ≡ Ok c → Read bs c
+    go (Ok tt) z e = accepted z (cc)
+    go (Err k) z e = absurd (cc)
 
 -- what the writer's answer that it is done says of the card and the buffer
-pub written_only : (c : Card) (size : ℕ) → write_answer c size ≡ written.Done → (size ≡ 56) × (wrong c ≡ false)
-unfolding write_answer write_code
-written_only c size e = go (eqb (write_code c size) 0) refl e
-  where
-    accepted : write_code c size ≡ 0 → (size ≡ 56) × (wrong c ≡ false)
-    accepted z =
-        let a = causes.none (not (eqb size 56)) 12 _ (lit< tt) z in
-        (eqb-true size 56 (not-false _ a.0), (causes.none (wrong c) 14 _ (lit< tt) a.1).0)
-
-    go : (t : Bool) → eqb (write_code c size) 0 ≡ t → cond t written.Done (written.Refused (write_code c size)) ≡ written.Done → (size ≡ 56) × (wrong c ≡ false)
-    go true z e = accepted (eqb-true (write_code c size) 0 z)
-    go false z e = absurd (let n : ◌≡◌ {A = ℕ} 0 1 = cc in omega arith)
+pub written_only : (c : Card) (size : ℕ) → write_answer c size ≡ Ok tt → (size ≡ 56) × (wrong c ≡ false)
+unfolding write_answer
+written_only c size e =
+    let a = causes.none (not (eqb size 56)) why.CardLength _ e in
+    (eqb-true size 56 (not-false _ a.0), (causes.none (wrong c) why.CardField _ a.1).0)
 
 -- the writer takes a card that is not wrong
-pub writes : (c : Card) (out : List ℕ) → length out ≡ 56 → wrong c ≡ false → (write_answer c (length out) ≡ written.Done) × (buffer_after c out ≡ card_bytes c)
-unfolding write_answer buffer_after write_code
+pub writes : (c : Card) (out : List ℕ) → length out ≡ 56 → wrong c ≡ false → (write_answer c (length out) ≡ Ok tt) × (buffer_after c out ≡ card_bytes c)
+unfolding write_answer buffer_after
 writes c out o w = (rw (eq-eqb (length out) 56 o, w), rw (eq-eqb (length out) 56 o, w))
 
-pub read_writes_back : (bs out : List ℕ) (c : Card) → Bytes bs → length out ≡ 56 → read_answer bs ≡ read.Holds c → (write_answer c (length out) ≡ written.Done) × (buffer_after c out ≡ bs)
+pub read_writes_back : (bs out : List ℕ) (c : Card) → Bytes bs → length out ≡ 56 → read_answer bs ≡ Ok c → (write_answer c (length out) ≡ Ok tt) × (buffer_after c out ≡ bs)
 read_writes_back bs out c h o e =
     let r = was_read bs c e in
     let w = writes c out o (rw r.is at r.fine) in
@@ -167,14 +161,14 @@ pub length_card : (c : Card) → length (card_bytes c) ≡ 56
 unfolding card_bytes
 length_card c = simp (length-append, length_head, length_counts, length_report)
 
-pub written_reads_back : (c : Card) → Typed c → wrong c ≡ false → read_answer (card_bytes c) ≡ read.Holds c
-unfolding read_answer read_code
+pub written_reads_back : (c : Card) → Typed c → wrong c ≡ false → read_answer (card_bytes c) ≡ Ok c
+unfolding read_answer read_refusal
 written_reads_back c t w = rw (length_card c, marked_card c t, same_card c t, w)
 
 -- ---- exactly these cards
 
 -- what is read has the types of its fields
-pub read_typed : (bs : List ℕ) (c : Card) → Bytes bs → read_answer bs ≡ read.Holds c → Typed c
+pub read_typed : (bs : List ℕ) (c : Card) → Bytes bs → read_answer bs ≡ Ok c → Typed c
 unfolding card_of
 read_typed bs c h e = rw (was_read bs c e).is at typed
   where
@@ -197,7 +191,7 @@ read_typed bs c h e = rw (was_read bs c e).is at typed
 pub record Readable (c : Card) : Type 0 where
   pub bytes : List ℕ
   pub all_bytes : Bytes bytes
-  pub reads : read_answer bytes ≡ read.Holds c
+  pub reads : read_answer bytes ≡ Ok c
 
 -- a card is not refused with 14 exactly if some bytes read as it
 pub accepted_exactly : (c : Card) → Typed c → (wrong c ≡ false → Readable c) × (Readable c → wrong c ≡ false)
@@ -207,14 +201,14 @@ accepted_exactly c t = (
 )
 
 -- and the writer takes exactly these cards
-pub written_exactly : (c : Card) (out : List ℕ) → Typed c → length out ≡ 56 → (write_answer c (length out) ≡ written.Done → Readable c) × (Readable c → write_answer c (length out) ≡ written.Done)
+pub written_exactly : (c : Card) (out : List ℕ) → Typed c → length out ≡ 56 → (write_answer c (length out) ≡ Ok tt → Readable c) × (Readable c → write_answer c (length out) ≡ Ok tt)
 written_exactly c out t o = (
   λ d. (accepted_exactly c t).0 (written_only c (length out) d).1,
   λ r. (writes c out o ((accepted_exactly c t).1 r)).0,
 )
 
 -- no two strings of bytes read as one card
-pub read_once : (bs bs' : List ℕ) (c : Card) → Bytes bs → Bytes bs' → read_answer bs ≡ read.Holds c → read_answer bs' ≡ read.Holds c → bs ≡ bs'
+pub read_once : (bs bs' : List ℕ) (c : Card) → Bytes bs → Bytes bs' → read_answer bs ≡ Ok c → read_answer bs' ≡ Ok c → bs ≡ bs'
 read_once bs bs' c h h' e e' =
     let o = (was_read bs c e).size in
     sym (read_writes_back bs bs c h o e).1 ∙ (read_writes_back bs' bs c h' o e').1

@@ -1,14 +1,13 @@
 -- The ledger card (02-change-requests.md, A.1): an ended session as 56 bytes, which cards are refused, and what the writer and the reader do. Definitions only.
-use Rattle.std.specs.Prelude.{ℕ, ◌^◌, Bool, false, cond, not, ◌&&◌, ◌||◌, List, [], ◌∷◌, ◌++◌, length, leb, ltb, eqb, ℤ, pos, nat_abs, Float}
+use Rattle.std.specs.Prelude.{ℕ, ◌^◌, Bool, false, cond, not, ◌&&◌, ◌||◌, List, [], ◌∷◌, ◌++◌, length, leb, ltb, eqb, ℤ, pos, nat_abs, Float, Result, Ok}
 use Rattle.std.specs.Float.{inf, fin, binary32, binary64}
 use Rattle.std.specs.Float.Ieee.{lt, le, to_bits, of_bits}
-use Rattle.limits.specs.Refusals.{◌⇒◌, first_of}
+use Rattle.std.specs.Result.{result_and}
+use Rattle.limits.specs.declared.Refusal.{Refusal}
+use Rattle.limits.specs.declared.Refusal.TheVariants as why
+use Rattle.limits.specs.Refusals.{◌⇒◌, first_of, is_allowed}
 use Rattle.words.specs.Words.{number_at, bytes_of, bits_of, signed_of}
 use Rattle.card.specs.declared.Card.{Card}
-use Rattle.card.specs.declared.Written.{Written}
-use Rattle.card.specs.declared.Written.TheVariants as written
-use Rattle.card.specs.declared.CardRead.{CardRead}
-use Rattle.card.specs.declared.CardRead.TheVariants as read
 
 -- ---- the bytes: each field's width and number, in order. Numbers are little-endian, floats as bits
 
@@ -107,19 +106,17 @@ wrong c =
 
 -- ---- the calls: 12 for another length, then the reader 13 for mark or version, then both 14
 
-unfoldable pub write_code : Card → ℕ → ℕ
-write_code c size = first_of ((not (eqb size 56) ⇒ 12) ∷ (wrong c ⇒ 14) ∷ [])
-
-unfoldable pub read_code : List ℕ → ℕ
-read_code bs = first_of ((not (eqb (length bs) 56) ⇒ 12) ∷ (not (marked 1 bs) ⇒ 13) ∷ (wrong (card_of bs) ⇒ 14) ∷ [])
-
 -- the writer's answer for a buffer of this size
-unfoldable pub write_answer : Card → ℕ → Written
-write_answer c size = cond (eqb (write_code c size) 0) written.Done (written.Refused (write_code c size))
+unfoldable pub write_answer : Card → ℕ → Result Unit Refusal
+write_answer c size = first_of ((not (eqb size 56) ⇒ why.CardLength) ∷ (wrong c ⇒ why.CardField) ∷ [])
 
 -- the buffer: the card's bytes, and after a refusal what it held
 unfoldable pub buffer_after : Card → List ℕ → List ℕ
-buffer_after c out = cond (eqb (write_code c (length out)) 0) (card_bytes c) out
+buffer_after c out = cond (is_allowed (write_answer c (length out))) (card_bytes c) out
 
-unfoldable pub read_answer : List ℕ → CardRead
-read_answer bs = cond (eqb (read_code bs) 0) (read.Holds (card_of bs)) (read.Refused (read_code bs))
+unfoldable pub read_refusal : List ℕ → Result Unit Refusal
+read_refusal bs =
+    first_of ((not (eqb (length bs) 56) ⇒ why.CardLength) ∷ (not (marked 1 bs) ⇒ why.CardMark) ∷ (wrong (card_of bs) ⇒ why.CardField) ∷ [])
+
+unfoldable pub read_answer : List ℕ → Result Card Refusal
+read_answer bs = result_and (read_refusal bs) (Ok (card_of bs))

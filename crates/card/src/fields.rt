@@ -4,6 +4,7 @@ ghost use Rattle.std.proofs.lemmas.List.Edits.{sets};
 ghost use Rattle.card.specs.Card.{head_bytes, count_bytes, report_bytes, card_bytes, marked, card_of};
 
 use crate::Card;
+use words::Pattern;
 
 // The mark "SSR" as a number, the least byte first.
 const MARK: u64 = 0x525353;
@@ -34,11 +35,11 @@ pub fn put_report(card: Card, out: &mut [u8])
     requires { 56 ≤ length out.old }
     ensures { out.new ≡ sets out.old 31 (report_bytes card) }
 {
-    words::put(out, 31, 4, words::float32_bits(card.start_quality) as u64);
-    words::put(out, 35, 8, words::float_bits(card.rate));
+    words::put(out, 31, 4, card.start_quality.pattern() as u64);
+    words::put(out, 35, 8, card.rate.pattern());
     words::put(out, 43, 1, card.slant as u64);
     words::put(out, 44, 8, words::signed_bits(card.skip));
-    words::put(out, 52, 4, words::float32_bits(card.quality) as u64);
+    words::put(out, 52, 4, card.quality.pattern() as u64);
 }
 
 pub fn put_card(card: Card, out: &mut [u8])
@@ -51,14 +52,16 @@ pub fn put_card(card: Card, out: &mut [u8])
 }
 
 // Whether the bytes begin with the mark and this version.
+#[tactic(auto, unfolding(crate::specs::Card::marked))]
 pub fn is_marked(version: u16, bytes: &[u8]) -> bool
     requires { 5 ≤ length bytes.now }
     ensures { result ≡ marked version bytes.now }
 {
-    (words::number(bytes, 0, 3) == MARK) & (words::number(bytes, 3, 2) == version as u64)
+    words::number(bytes, 0, 3) == MARK && words::number(bytes, 3, 2) == version as u64
 }
 
 // The fields behind mark and version.
+#[tactic(auto, unfolding(crate::specs::Card::card_of))]
 pub fn card_in(bytes: &[u8]) -> Card
     requires { 56 ≤ length bytes.now }
     ensures { result ≡ card_of bytes.now }
@@ -69,10 +72,10 @@ pub fn card_in(bytes: &[u8]) -> Card
         taken: words::word(bytes, 7),
         evaluations: words::word(bytes, 15),
         start: words::word(bytes, 23),
-        start_quality: words::float32_of(words::half_word(bytes, 31)),
-        rate: words::float_of(words::word(bytes, 35)),
+        start_quality: f32::from_pattern(words::half_word(bytes, 31)),
+        rate: f64::from_pattern(words::word(bytes, 35)),
         slant: words::byte(bytes, 43),
         skip: words::signed_of(words::word(bytes, 44)),
-        quality: words::float32_of(words::half_word(bytes, 52)),
+        quality: f32::from_pattern(words::half_word(bytes, 52)),
     }
 }

@@ -7,7 +7,10 @@ mod fields;
 ghost use Rattle.std.specs.Prelude.{◌≡◌, length};
 ghost use Rattle.card.specs.Card.{write_answer, buffer_after, read_answer};
 
+use limits::Refusal;
+
 // What a card holds. `end` is 0 for reported, 1 for unfound and 2 for cut short, and `slant` the index of the slant's angle, 255 for none.
+// Both are numbers, since a host may hand in any byte, and the writer refuses a wrong one.
 #[derive(Clone, Copy)]
 pub struct Card {
     pub mode: u8,
@@ -22,46 +25,36 @@ pub struct Card {
     pub quality: f32,
 }
 
-#[derive(Clone, Copy)]
-pub enum Written {
-    Done,
-    Refused(u8),
-}
-
-#[derive(Clone, Copy)]
-pub enum CardRead {
-    Holds(Card),
-    Refused(u8),
-}
-
 // Writes a card into a buffer of 56 bytes.
-pub fn write_card(card: Card, out: &mut [u8]) -> Written
+#[tactic(auto, unfolding(crate::specs::Card::write_answer, crate::specs::Card::buffer_after))]
+pub fn write_card(card: Card, out: &mut [u8]) -> Result<(), Refusal>
     ensures value { result ≡ write_answer card (length out.old) }
     ensures out_after { out.new ≡ buffer_after card out.old }
 {
     if out.len() != 56 {
-        return Written::Refused(12);
+        return Err(Refusal::CardLength);
     }
-    if check::is_wrong(card) {
-        return Written::Refused(14);
+    if card.is_wrong() {
+        return Err(Refusal::CardField);
     }
     fields::put_card(card, out);
-    Written::Done
+    Ok(())
 }
 
 // The card that 56 bytes hold.
-pub fn read_card(bytes: &[u8]) -> CardRead
+#[tactic(auto, unfolding(crate::specs::Card::read_answer, crate::specs::Card::read_refusal))]
+pub fn read_card(bytes: &[u8]) -> Result<Card, Refusal>
     ensures { result ≡ read_answer bytes.now }
 {
     if bytes.len() != 56 {
-        return CardRead::Refused(12);
+        return Err(Refusal::CardLength);
     }
     if !fields::is_marked(1, bytes) {
-        return CardRead::Refused(13);
+        return Err(Refusal::CardMark);
     }
     let card = fields::card_in(bytes);
-    if check::is_wrong(card) {
-        return CardRead::Refused(14);
+    if card.is_wrong() {
+        return Err(Refusal::CardField);
     }
-    CardRead::Holds(card)
+    Ok(card)
 }

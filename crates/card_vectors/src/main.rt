@@ -7,244 +7,171 @@
 // that is not refused stand its bytes.
 #![tactic(auto)]
 
-ghost use Rattle.std.specs.Prelude.{◌≤◌, length};
+ghost use Rattle.std.specs.Prelude.{◌≡◌, length};
 
-use card::{Card, CardRead, Written};
-use replay::tally::Tally;
-use replay::{Long, tally};
+use card::Card;
+use replay::tally::Verdict;
+use replay::{Case, Pattern};
 use std::io;
-use std::io::Read;
+
+// The bytes of a card's fields.
+const FIELD_BYTES: usize = 80;
+
+// What stands in a buffer before a card is written.
+const MARK: u8 = 9;
 
 // ---- fields
 
 fn card_of(fields: &[u8]) -> Card
-    requires { 80 ≤ length fields.now }
+    requires { length fields.now ≡ 80 }
 {
-    let mode = words::byte(fields, 0);
-    let end = words::byte(fields, 8);
-    let slant = words::byte(fields, 56);
-    let start_quality = words::float32_of(words::half_word(fields, 40));
-    let quality = words::float32_of(words::half_word(fields, 72));
     Card {
-        mode: mode,
-        end: end,
+        mode: words::byte(fields, 0),
+        end: words::byte(fields, 8),
         taken: words::word(fields, 16),
         evaluations: words::word(fields, 24),
         start: words::word(fields, 32),
-        start_quality: start_quality,
-        rate: words::float_of(words::word(fields, 48)),
-        slant: slant,
+        start_quality: f32::from_pattern(words::half_word(fields, 40)),
+        rate: f64::from_pattern(words::word(fields, 48)),
+        slant: words::byte(fields, 56),
         skip: words::signed_of(words::word(fields, 64)),
-        quality: quality,
+        quality: f32::from_pattern(words::half_word(fields, 72)),
     }
 }
 
-fn holds(card: Card, fields: &[u8]) -> bool {
-    if fields.len() != 80 {
-        return false;
-    }
-    card.mode as u64 == words::word(fields, 0)
-        && card.end as u64 == words::word(fields, 8)
+fn has_fields(card: Card, fields: &[u8]) -> bool {
+    fields.len() == FIELD_BYTES
+        && u64::from(card.mode) == words::word(fields, 0)
+        && u64::from(card.end) == words::word(fields, 8)
         && card.taken == words::word(fields, 16)
         && card.evaluations == words::word(fields, 24)
         && card.start == words::word(fields, 32)
-        && words::same_bits32(card.start_quality, words::half_word(fields, 40))
-        && words::same_bits(card.rate, words::word(fields, 48))
-        && card.slant as u64 == words::word(fields, 56)
+        && card.start_quality.has_pattern(words::half_word(fields, 40))
+        && card.rate.has_pattern(words::word(fields, 48))
+        && u64::from(card.slant) == words::word(fields, 56)
         && words::signed_bits(card.skip) == words::word(fields, 64)
-        && words::same_bits32(card.quality, words::half_word(fields, 72))
+        && card.quality.has_pattern(words::half_word(fields, 72))
 }
 
 // ---- read
 
 // Whether a card is written as these bytes.
 fn is_written_as(card: Card, bytes: &[u8]) -> bool {
-    let mut out = [9u8; 56];
-    match card::write_card(card, &mut out) {
-        Written::Done => lent_memory::begins_with(&out, bytes, 56),
-        Written::Refused(_) => false,
-    }
+    let mut out = [MARK; 56];
+    card::write_card(card, &mut out).is_ok() && out.as_slice() == bytes
 }
 
 // Whether bytes are refused with x, or for 0 are read as a card that writes back as the same bytes.
-fn number_right(bytes: &[u8], x: u64) -> bool {
+fn refusal_is_right(bytes: &[u8], x: u64) -> bool {
     match card::read_card(bytes) {
-        CardRead::Holds(card) => x == 0 && is_written_as(card, bytes),
-        CardRead::Refused(k) => x != 0 && k as u64 == x,
+        Ok(card) => x == 0 && is_written_as(card, bytes),
+        Err(refusal) => u64::from(refusal.number()) == x,
     }
 }
 
-fn fields_right(bytes: &[u8], fields: &[u8]) -> bool {
+fn fields_are_right(bytes: &[u8], fields: &[u8]) -> bool {
     match card::read_card(bytes) {
-        CardRead::Holds(card) => holds(card, fields),
-        CardRead::Refused(_) => fields.len() == 0,
+        Ok(card) => has_fields(card, fields),
+        Err(_) => fields.is_empty(),
     }
 }
 
-fn read_right(a: u64, x: u64, payload: &[u8]) -> bool {
-    if a > payload.len() as u64 {
-        return false;
-    }
-    let n = a as usize;
-    number_right(&payload[..n], x) && fields_right(&payload[..n], &payload[n..])
-}
-
-// Whether the card before the last 256 bytes gives the refusal at place `value` of these.
-fn value_right(payload: &[u8], value: usize) -> bool {
-    if payload.len() < 256 {
-        return false;
-    }
-    if value >= 256 {
-        return false;
-    }
-    let n = payload.len() - 256;
-    let x = words::number(payload, n + value, 1);
-    number_right(&payload[..n], x)
-}
-
-fn set(bytes: &mut [u8], place: usize, value: u8) {
-    if place < bytes.len() {
-        bytes[place] = value;
+fn read_is_right(case: &Case) -> bool {
+    match case.payload.split_at_checked(case.a as usize) {
+        Some((bytes, fields)) => {
+            refusal_is_right(bytes, case.x) && fields_are_right(bytes, fields)
+        }
+        None => false,
     }
 }
 
 // The same of each value of the card's byte at place a.
-fn changed_right(a: u64, payload: &mut [u8]) -> bool {
-    let place = a as usize;
-    let mut value: usize = 0;
-    while value < 256 {
-        set(payload, place, value as u8);
-        if !value_right(payload, value) {
+fn changes_are_right(mut case: Case) -> bool {
+    let Some(n) = case.payload.len().checked_sub(256) else {
+        return false;
+    };
+    let place = case.a as usize;
+    let (card, refusals) = case.payload.split_at_mut(n);
+    for (value, refusal) in (0..=u8::MAX).zip(refusals.iter()) {
+        let Some(byte) = card.get_mut(place) else {
+            return false;
+        };
+        *byte = value;
+        if !refusal_is_right(card, u64::from(*refusal)) {
             return false;
         }
-        value += 1;
     }
     true
 }
 
 // ---- write
 
-fn refusal(answer: Written) -> u64 {
-    match answer {
-        Written::Done => 0,
-        Written::Refused(k) => k as u64,
-    }
-}
-
-// Whether a marked memory has these bytes at its front, and its marks behind them.
-fn buffer_right(out: &[u8], bytes: &[u8]) -> bool {
-    let n = bytes.len();
-    if n > out.len() {
-        return false;
-    }
-    let marks = [9u8; 64];
-    lent_memory::begins_with(out, bytes, n)
-        && lent_memory::begins_with(&out[n..], &marks, out.len() - n)
-}
-
 // Whether a card is written into the first n places of a marked memory, or refused with x and nothing written.
-fn write_answered(card: Card, n: usize, x: u64, bytes: &[u8], out: &mut [u8]) -> bool {
-    if n > out.len() {
+fn write_is_right(case: &Case) -> bool {
+    let Some((fields, bytes)) = case.payload.split_at_checked(FIELD_BYTES) else {
+        return false;
+    };
+    if case.x == 0 && bytes.len() != 56 {
         return false;
     }
-    let answer = card::write_card(card, &mut out[..n]);
-    refusal(answer) == x && buffer_right(out, bytes)
+    let mut out = [MARK; 64];
+    let Some(buffer) = out.get_mut(..case.a as usize) else {
+        return false;
+    };
+    let number = match card::write_card(card_of(fields), buffer) {
+        Ok(()) => 0,
+        Err(refusal) => u64::from(refusal.number()),
+    };
+    number == case.x && is_marked_behind(&out, bytes)
 }
 
-fn write_right(a: u64, x: u64, payload: &[u8]) -> bool {
-    if payload.len() < 80 {
-        return false;
+// Whether a memory has these bytes at its front, and marks behind them.
+fn is_marked_behind(memory: &[u8], bytes: &[u8]) -> bool {
+    match memory.strip_prefix(bytes) {
+        Some(rest) => rest.iter().all(|x| *x == MARK),
+        None => false,
     }
-    if x == 0 && payload.len() != 136 {
-        return false;
-    }
-    let mut out = [9u8; 64];
-    write_answered(card_of(payload), a as usize, x, &payload[80..], &mut out)
 }
 
 // ---- records
 
-fn right(op: u64, a: u64, x: u64, payload: &mut [u8]) -> bool {
-    match op {
-        0 => read_right(a, x, payload),
-        1 => changed_right(a, payload),
-        2 => write_right(a, x, payload),
+fn is_right(case: Case) -> bool {
+    match case.op {
+        0 => read_is_right(&case),
+        1 => changes_are_right(case),
+        2 => write_is_right(&case),
         _ => false,
     }
 }
 
 // What a record is counted as: by its operation and its refusal.
-fn class(op: u64, x: u64) -> u64 {
-    if op == 0 {
-        return match x {
-            0 => 0,
-            12 => 1,
-            13 => 2,
-            _ => 3,
-        };
-    }
-    if op == 1 {
-        return 4;
-    }
-    match x {
-        0 => 5,
-        12 => 6,
+fn kind(case: &Case) -> u64 {
+    match (case.op, case.x) {
+        (0, 0) => 0,
+        (0, 12) => 1,
+        (0, 13) => 2,
+        (0, _) => 3,
+        (1, _) => 4,
+        (_, 0) => 5,
+        (_, 12) => 6,
         _ => 7,
     }
 }
 
-fn answered(file: &mut impl Read, op: u64, a: u64, x: u64, payload: &mut [u8]) -> io::Result<bool> {
-    if replay::payload(file, payload)? {
-        Ok(right(op, a, x, payload))
-    } else {
-        Ok(false)
-    }
-}
-
-// Takes one record. One that is cut short, or longer than the memory for it, is wrong and the last.
-fn one(file: &mut impl Read, t: Tally, bytes: &mut [u8]) -> io::Result<Tally> {
-    match replay::next_long(file)? {
-        Long::End => Ok(tally::ended(t)),
-        Long::Cut => Ok(tally::cut(t)),
-        Long::Case {
-            op,
-            a,
-            b: _,
-            c: _,
-            x,
-            y: _,
-            z: _,
-            n,
-        } => {
-            let size: usize = n as usize;
-            if size > bytes.len() {
-                return Ok(tally::cut(t));
-            }
-            let right = answered(file, op, a, x, &mut bytes[..size])?;
-            Ok(tally::counted(t, class(op, x), right))
-        }
-    }
-}
-
-fn all(file: &mut impl Read, bytes: &mut [u8]) -> io::Result<Tally> {
-    let mut t = tally::start();
-    let mut turns = u64::MAX;
-    while turns > 0 && t.more {
-        t = one(file, t, bytes)?;
-        turns -= 1;
-    }
-    Ok(t)
-}
-
 fn main(rt: HostRuntime) -> io::Result<()> {
-    let Some(mut file) = replay::opened(&rt, "vectors") else {
-        return Ok(());
-    };
-    let mut bytes = [0u8; 512];
-    let t = all(&mut file, &mut bytes)?;
-    tally::report(
-        &rt,
-        b"read read_refused_12 read_refused_13 read_refused_14 byte_changed write write_refused_12 write_refused_14",
-        t,
-    )
+    let kinds = [
+        "read",
+        "read_refused_12",
+        "read_refused_13",
+        "read_refused_14",
+        "byte_changed",
+        "write",
+        "write_refused_12",
+        "write_refused_14",
+    ];
+    replay::run(&rt, rt.alloc(), &kinds, |case: Case| {
+        let kind = kind(&case);
+        let right = is_right(case);
+        Ok(Verdict { kind, right })
+    })
 }

@@ -1,5 +1,5 @@
 -- Laws of `list_to`, and of a list that is rewritten from the front. Assumes nothing.
-use mathlib.Core.Path.{◌≡◌, refl, sym, ap, ◌∙◌}
+use mathlib.Core.Path.{◌≡◌, refl, sym, ap, ◌∙◌, subst}
 use mathlib.Core.Bool.{Bool, true, false, not}
 use mathlib.Core.Logic.{◌⊎◌, inl, inr}
 use mathlib.Core.List.{List, [], ◌∷◌, ◌++◌}
@@ -10,6 +10,8 @@ use native.Mathlib.Nat.{not-suc-le-zero, eq-or-lt_of_le}
 use lib.ListN.{length, get_or, take, drop, set, replicate, length-replicate, get_or-replicate, length-append, length-drop, length-set, get_or-append, get_or-eq_default}
 use lib.Dec.{T, ltb, ltb→lt, nltb→le}
 use lib.Seq.{ext_get_or, get_or_at, take-suc, take-suc-set, drop-set-lt, drop-cons, take_all}
+use Rattle.std.specs.Array.{IsFromFnResult, IsFromFnResultFrom}
+use denote.Param.Members.{Mut, Called}
 use Rattle.columns.specs.Columns.{list_to}
 
 -- the part of a list from a on, as the code takes it
@@ -33,6 +35,11 @@ module _ {A : Type 0} (f : ℕ → A) where
           let s : k < length (list_to f n) = rw (length_list n) (omega arith) in
           get_or-append (list_to f n) (f n ∷ []) d k s ∙ r (omega arith)
 
+  -- a list of n places that are f's
+  pub is_list : (l : List A) (n : ℕ) (d : A) → length l ≡ n → ((k : ℕ) → k < n → get_or l k d ≡ f k) → l ≡ list_to f n
+  is_list l n d e h =
+      ext_get_or d l (list_to f n) (e ∙ sym (length_list n)) (λ k b. let i : k < n = rw e at b in h k i ∙ sym (get_d_list n k d i))
+
   -- a list whose first x places are f's, after the next one is written
   pub write_next : (l : List A) (x : ℕ) (v : A) → x < length l → take x l ≡ list_to f x → v ≡ f x → take (x + 1) (set l x v) ≡ list_to f (x + 1)
   unfolding list_to
@@ -42,6 +49,21 @@ module _ {A : Type 0} (f : ℕ → A) where
   -- a list of n places, all of which are f's
   pub all_written : (l : List A) (n : ℕ) → length l ≡ n → take n l ≡ list_to f n → l ≡ list_to f n
   all_written l n h e = sym (take_all n l (omega arith)) ∙ e
+
+-- what `from_fn` made by a closure that gives f's values and stays as it is
+module _ {F B : Type 0} (g : Mut F (ℕ × Unit {0}) B) (made : F) (f : ℕ → B) (gives : (k : ℕ) (y : B) (next : F) → Called g made (k, tt) y next → (next ≡ made) × (y ≡ f k)) where
+  each_is : (ys : List B) (i n : ℕ) (now : F) → now ≡ made → IsFromFnResultFrom g now ys i n → (d : B) (k : ℕ) → i ≤ k → k < i + n → get_or ys k d ≡ f k
+  each_is ys i zero now e h d k l b = absurd (omega arith)
+  each_is ys i (suc n) now e h d k l b =
+      let r = gives i h.1 h.0 (subst (λ (p : F). Called g p (i, tt) h.1 h.0) e h.3) in
+      at (eq-or-lt_of_le l) r.1 (λ a. each_is ys (i + 1) n h.0 r.0 h.4 d k (omega arith) (omega arith))
+    where
+      at : (i ≡ k) ⊎ (i < k) → h.1 ≡ f i → (i < k → get_or ys k d ≡ f k) → get_or ys k d ≡ f k
+      at (inl s) q later = rw (← s) (h.2.1 d ∙ q)
+      at (inr s) q later = later s
+
+  pub from_fn_is : (ys : List B) (n : ℕ) (d : B) → IsFromFnResult g made ys n → ys ≡ list_to f n
+  from_fn_is ys n d h = is_list f ys n d h.long (λ k l. each_is ys 0 n made refl h.each d k (omega arith) (omega arith))
 
 -- of numbers that are at most m
 pub list_below : (f : ℕ → ℕ) (n m : ℕ) → ((x : ℕ) → f x ≤ m) → (k : ℕ) → get_or (list_to f n) k 0 ≤ m

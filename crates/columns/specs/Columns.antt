@@ -3,6 +3,7 @@ use Rattle.std.specs.Prelude.{ℕ, zero, suc, List, [], ◌∷◌, ◌++◌, Flo
 use Rattle.std.specs.Float.{binary64}
 use Rattle.std.specs.Float.Ieee.{mul, div, of_int, to_unsigned}
 use Rattle.ieee.specs.Numbers.{of_nat}
+unfoldable pub use Rattle.std.specs.Float.Ieee.{of_bits}
 
 -- f 0, f 1, .. f (n - 1)
 unfoldable pub list_to : {A : Type 0} → (ℕ → A) → ℕ → List A

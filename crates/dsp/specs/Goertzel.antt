@@ -3,6 +3,8 @@ use Rattle.std.specs.Prelude.{false, List, [], ◌∷◌, pos, from_bits, Float}
 use Rattle.std.specs.Float.{fin, binary64}
 use Rattle.std.specs.Float.Ieee.{add, sub, mul, neg}
 use Rattle.fma.specs.Fma.{fma}
+use Rattle.dsp.specs.declared.Tone.{Tone}
+use Rattle.dsp.specs.declared.Tone.TheVariants.{Hz1500, Hz2300}
 
 -- 2.0 * (2.0 * PI * k / 49.0).cos() for k = 7 (1,500 Hz) and k = 10 (2,300 Hz): the bits that the Rust gives on the comparing machine
 unfoldable pub coefficient1500 : Float
@@ -10,6 +12,10 @@ coefficient1500 = from_bits binary64 0x3ff3_f3a0_e28b_edd2
 
 unfoldable pub coefficient2300 : Float
 coefficient2300 = from_bits binary64 0x3fe2_35b3_31d8_f741
+
+abbrev pub coefficient_of : Tone → Float
+coefficient_of Hz1500 = coefficient1500
+coefficient_of Hz2300 = coefficient2300
 
 -- sample + coefficient * prev - prev2. A sample is an `f32`, and widening leaves its value as it is.
 unfoldable pub next_value : Float → Float → Float → Float → Float

@@ -2,16 +2,36 @@
 #![tactic(auto)]
 
 ghost use Rattle.std.specs.Prelude.{◌≡◌};
-ghost use Rattle.dsp.specs.Goertzel.{coefficient1500, coefficient2300, next_value, power_at, goertzel_power};
+ghost use Rattle.dsp.specs.Goertzel.{coefficient_of, next_value, power_at, goertzel_power};
 ghost use Rattle.dsp.specs.Spectrum.{power_of, bin_of, hann};
 
 // ---- the power of one tone
+
+// The two tones whose powers are compared, by their frequency.
+#[derive(Clone, Copy)]
+pub enum Tone {
+    Hz1500,
+    Hz2300,
+}
 
 // 2.0 * (2.0 * PI * k / 49.0).cos() for k = 7 and k = 10, as the Rust gives them.
 const COEFFICIENT_1500: f64 = f64::from_bits(0x3ff3_f3a0_e28b_edd2);
 
 const COEFFICIENT_2300: f64 = f64::from_bits(0x3fe2_35b3_31d8_f741);
 
+impl Tone {
+    // The coefficient is the one for 49 samples.
+    fn coefficient(self) -> f64
+        ensures { result ≡ coefficient_of self }
+    {
+        match self {
+            Tone::Hz1500 => COEFFICIENT_1500,
+            Tone::Hz2300 => COEFFICIENT_2300,
+        }
+    }
+}
+
+#[tactic(auto, unfolding(crate::specs::Goertzel::next_value))]
 fn next_value(coeff: f64, s_prev: f64, s_prev2: f64, sample: f32) -> f64
     ensures { result ≡ next_value coeff s_prev s_prev2 sample }
 {
@@ -26,33 +46,19 @@ fn power_at(coeff: f64, s_prev: f64, s_prev2: f64) -> f64
     fma::mul_add(s_prev2, s_prev2, inner)
 }
 
-fn goertzel_power(samples: &[f32], coeff: f64) -> f64
-    ensures { result ≡ goertzel_power coeff samples.now }
+// The power of a tone in the samples.
+pub fn goertzel_power(samples: &[f32], tone: Tone) -> f64
+    ensures { result ≡ goertzel_power (coefficient_of tone) samples.now }
 {
+    let coeff = tone.coefficient();
     let mut s_prev: f64 = 0.0;
     let mut s_prev2: f64 = 0.0;
-    let mut i: usize = 0;
-    while i < samples.len() {
-        let s: f64 = next_value(coeff, s_prev, s_prev2, samples[i]);
+    for sample in samples {
+        let s: f64 = next_value(coeff, s_prev, s_prev2, *sample);
         s_prev2 = s_prev;
         s_prev = s;
-        i += 1;
     }
     power_at(coeff, s_prev, s_prev2)
-}
-
-// The power at 1,500 Hz. The coefficient is the one for 49 samples.
-pub fn goertzel_1500(samples: &[f32]) -> f64
-    ensures { result ≡ goertzel_power coefficient1500 samples.now }
-{
-    goertzel_power(samples, COEFFICIENT_1500)
-}
-
-// The power at 2,300 Hz.
-pub fn goertzel_2300(samples: &[f32]) -> f64
-    ensures { result ≡ goertzel_power coefficient2300 samples.now }
-{
-    goertzel_power(samples, COEFFICIENT_2300)
 }
 
 // ---- bins and window of a spectrum

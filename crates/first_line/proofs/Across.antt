@@ -1,8 +1,7 @@
 -- Laws of the columns of a wide pulse. Assumes nothing.
-use Rattle.std.proofs.Common.{◌≡◌, ℕ, zero, suc, ◌+◌, ◌*◌, ◌<◌, ◌≤◌, Bool, true, false, List, refl, add-one, arith, le-leb}
+use Rattle.std.proofs.Common.{◌≡◌, ℕ, zero, suc, ◌+◌, ◌*◌, ◌<◌, ◌≤◌, Bool, true, false, List, Some, refl, add-one, arith, le-leb}
 use borrow.Author.Tests.{lt-leb}
 use lib.Ieee.{Float}
-use Rattle.first_line.specs.declared.FirstLine.TheVariants.{Line}
 use Rattle.window_fold.specs.Fold.{hit_at, hit_by, lines_at}
 use Rattle.first_line.specs.Pulsed.{hits_across, half_set, first_line, or_zero}
 use Rattle.window_fold.proofs.Folding.{hit_small}
@@ -33,8 +32,8 @@ module _ (samples : Float) (window : List ℕ) (column width : ℕ) where
   half_clear y hits e h = rw (← e) (lt-leb _ _ h)
 
 -- the lines before y fail the test, and y passes it; or all fail it
-pub zero_at : (test : ℕ → Bool) (lines y : ℕ) → y < lines → ((k : ℕ) → k < y → test k ≡ false) → test y ≡ true → Line y ≡ or_zero (first_line test 0 lines)
+pub zero_at : (test : ℕ → Bool) (lines y : ℕ) → y < lines → ((k : ℕ) → k < y → test k ≡ false) → test y ≡ true → Some y ≡ or_zero (first_line test 0 lines)
 zero_at test lines y h f t = rw (first_at test 0 lines y (omega arith) (omega arith) (λ k a b. f k b) t)
 
-pub zero_none : (test : ℕ → Bool) (lines y : ℕ) → lines ≤ y → ((k : ℕ) → k < y → test k ≡ false) → Line 0 ≡ or_zero (first_line test 0 lines)
+pub zero_none : (test : ℕ → Bool) (lines y : ℕ) → lines ≤ y → ((k : ℕ) → k < y → test k ≡ false) → Some 0 ≡ or_zero (first_line test 0 lines)
 zero_none test lines y h f = rw (first_none test 0 lines (λ k a b. f k (omega arith)))

@@ -1,13 +1,12 @@
 -- The first pulsed line is that of the wide or the narrow pulse. Assumes nothing.
-use Rattle.std.proofs.Common.{◌≡◌, ℕ, ◌-◌, ◌<◌, ◌≤◌, min, List, drop, le-leb}
+use Rattle.std.proofs.Common.{◌≡◌, ℕ, ◌-◌, ◌<◌, ◌≤◌, min, List, Option, drop, le-leb}
 use borrow.Author.Tests.{lt-leb}
 use lib.Ieee.{Float}
 use Rattle.modespec.specs.declared.ModeSpec.{ModeSpec}
 use Rattle.modespec.specs.Sizes.{line_samples, window_lines}
-use Rattle.first_line.specs.declared.FirstLine.{FirstLine}
 use Rattle.first_line.specs.Pulsed.{first_pulsed_line, wide_line, narrow_line, or_zero, first_line, first_pair, half_set, pulsed_line, line_probes, pulse_probes}
 
-module _ (spec : ModeSpec) (first : ℕ) (flags window : List ℕ) (column width lines : ℕ) (r : FirstLine) (l : lines ≡ window_lines spec) where
+module _ (spec : ModeSpec) (first : ℕ) (flags window : List ℕ) (column width lines : ℕ) (r : Option ℕ) (l : lines ≡ window_lines spec) where
   pub wide_is : (samples : Float) → 20 ≤ width → samples ≡ line_samples spec → window ≡ drop first flags → r ≡ or_zero (first_line (half_set samples window column width) 0 lines)
       → r ≡ first_pulsed_line spec first flags column width
   unfolding first_pulsed_line wide_line

@@ -1,17 +1,16 @@
 -- Laws of the search for a first line. Assumes nothing.
-use Rattle.std.proofs.Common.{◌≡◌, ℕ, zero, suc, ◌+◌, ◌-◌, ◌<◌, ◌≤◌, Bool, true, false, cond, ◌&&◌, ◌⊎◌, sym, refl, ◌∙◌, inl, inr, true≢false, not-suc-le-zero, eq-or-lt_of_le, arith}
-use Rattle.first_line.specs.declared.FirstLine.TheVariants.{Missing, Line}
+use Rattle.std.proofs.Common.{◌≡◌, ℕ, zero, suc, ◌+◌, ◌-◌, ◌<◌, ◌≤◌, Bool, true, false, cond, ◌&&◌, ◌⊎◌, sym, refl, ◌∙◌, inl, inr, true≢false, not-suc-le-zero, eq-or-lt_of_le, Some, None, arith}
 use Rattle.first_line.specs.Pulsed.{first_line, first_pair}
 
 module _ (test : ℕ → Bool) where
   -- no line passes
-  pub first_none : (y n : ℕ) → ((k : ℕ) → y ≤ k → k < y + n → test k ≡ false) → first_line test y n ≡ Missing
+  pub first_none : (y n : ℕ) → ((k : ℕ) → y ≤ k → k < y + n → test k ≡ false) → first_line test y n ≡ None
   unfolding first_line
   first_none y zero h = refl
   first_none y (suc n) h = rw (h y (omega arith) (omega arith)) (first_none (suc y) n (λ k l r. h k (omega arith) (omega arith)))
 
   -- line m passes, and none before it
-  pub first_at : (y n m : ℕ) → y ≤ m → m < y + n → ((k : ℕ) → y ≤ k → k < m → test k ≡ false) → test m ≡ true → first_line test y n ≡ Line m
+  pub first_at : (y n m : ℕ) → y ≤ m → m < y + n → ((k : ℕ) → y ≤ k → k < m → test k ≡ false) → test m ≡ true → first_line test y n ≡ Some m
   unfolding first_line
   first_at y zero m l r h t = absurd (not-suc-le-zero (none l r))
     where
@@ -19,7 +18,7 @@ module _ (test : ℕ → Bool) where
       none l r = omega arith
   first_at y (suc n) m l r h t = at (eq-or-lt_of_le l) (λ q. first_at (suc y) n m q (omega arith) (λ k a b. h k (omega arith) b) t)
     where
-      at : (y ≡ m) ⊎ (y < m) → (suc y ≤ m → first_line test (suc y) n ≡ Line m) → cond (test y) (Line y) (first_line test (suc y) n) ≡ Line m
+      at : (y ≡ m) ⊎ (y < m) → (suc y ≤ m → first_line test (suc y) n ≡ Some m) → cond (test y) (Some y) (first_line test (suc y) n) ≡ Some m
       at (inl e) rest = rw (e, t)
       at (inr q) rest = rw (h y (omega arith) q) (rest q)
 
@@ -34,14 +33,14 @@ below_next test y h t k l = at (eq-or-lt_of_le (below l))
     at (inl e) = rw e t
     at (inr q) = h k q
 
--- What a scan for a pair knows before it looks at `line`: no pair ends before it, and if there is a line before it, that is y, and `clean` says whether it is pulsed.
-pub record Scanned (pulsed : ℕ → Bool) (clean : Bool) (y line : ℕ) : Type 0 where
+-- What a scan for a pair knows before it looks at `line`: no pair ends before it, and `clean` says whether there is a line before it that is pulsed.
+pub record Scanned (pulsed : ℕ → Bool) (clean : Bool) (line : ℕ) : Type 0 where
   pub none : (k : ℕ) → k + 1 < line → pulsed k && pulsed (k + 1) ≡ false
-  pub last : (k : ℕ) → line ≡ k + 1 → (y ≡ k) × (clean ≡ pulsed k)
+  pub last : (k : ℕ) → line ≡ k + 1 → clean ≡ pulsed k
   pub fresh : line ≡ 0 → clean ≡ false
 
 module _ (pulsed : ℕ → Bool) where
-  pub scanned_start : Scanned pulsed false 0 0
+  pub scanned_start : Scanned pulsed false 0
   scanned_start =
       record {
         none = λ k h. absurd (not-suc-le-zero h);
@@ -52,21 +51,24 @@ module _ (pulsed : ℕ → Bool) where
       never : (k : ℕ) → 0 ≡ k + 1 → ⊥
       never k e = omega arith
 
-  module _ (clean : Bool) (y line : ℕ) (s : Scanned pulsed clean y line) where
-    -- a pair that ends at `line` begins at y
-    pair_here : (k : ℕ) → k + 1 ≡ line → pulsed line && clean ≡ false → pulsed k && pulsed (k + 1) ≡ false
-    pair_here k e p = rw (← (s.last k (sym e)).1, e) (swapped clean (pulsed line) p)
+  module _ (clean : Bool) (line : ℕ) (s : Scanned pulsed clean line) where
+    -- a pulsed line before `line` is a line
+    pub scanned_behind : clean ≡ true → 1 ≤ line
+    scanned_behind c = at line refl
       where
-        swapped : (a b : Bool) → b && a ≡ false → a && b ≡ false
-        swapped true true h = h
-        swapped true false h = refl
-        swapped false b h = refl
+        at : (n : ℕ) → line ≡ n → 1 ≤ n
+        at zero e = let z : true ≡ false = sym c ∙ s.fresh e in absurd (true≢false z)
+        at (suc n) e = omega arith
 
-    pub scanned_next : (now : Bool) → now ≡ pulsed line → pulsed line && clean ≡ false → Scanned pulsed now line (line + 1)
+    -- a pair that ends at `line` begins with the line before it
+    pair_here : (k : ℕ) → k + 1 ≡ line → clean && pulsed line ≡ false → pulsed k && pulsed (k + 1) ≡ false
+    pair_here k e p = rw (← s.last k (sym e), e) p
+
+    pub scanned_next : (now : Bool) → now ≡ pulsed line → clean && now ≡ false → Scanned pulsed now (line + 1)
     scanned_next now e p =
         record {
           none = λ k h. at k (eq-or-lt_of_le (below k h));
-          last = λ k q. (omega arith, rw (same k q) e);
+          last = λ k q. rw (same k q) e;
           fresh = λ q. absurd (never q);
         }
       where
@@ -74,7 +76,7 @@ module _ (pulsed : ℕ → Bool) where
         below k h = omega arith
 
         at : (k : ℕ) → (k + 1 ≡ line) ⊎ (k + 1 < line) → pulsed k && pulsed (k + 1) ≡ false
-        at k (inl q) = pair_here k q p
+        at k (inl q) = pair_here k q (rw e at p)
         at k (inr q) = s.none k q
 
         same : (k : ℕ) → line + 1 ≡ k + 1 → k ≡ line
@@ -83,21 +85,16 @@ module _ (pulsed : ℕ → Bool) where
         never : line + 1 ≡ 0 → ⊥
         never q = omega arith
 
-    pub scanned_missing : (lines : ℕ) → lines ≤ line → Missing ≡ first_pair pulsed lines
+    pub scanned_missing : (lines : ℕ) → lines ≤ line → None ≡ first_pair pulsed lines
     unfolding first_pair
     scanned_missing lines h = sym (first_none (λ k. pulsed k && pulsed (k + 1)) 0 (lines - 1) (λ k l r. s.none k (omega arith)))
 
-    pub scanned_found : (lines : ℕ) → line < lines → clean ≡ true → pulsed line ≡ true → Line y ≡ first_pair pulsed lines
+    pub scanned_found : (lines : ℕ) → line < lines → clean ≡ true → pulsed line ≡ true → Some (line - 1) ≡ first_pair pulsed lines
     unfolding first_pair
-    scanned_found lines h c p = at line refl
-      where
-        at : (n : ℕ) → line ≡ n → Line y ≡ first_line (λ k. pulsed k && pulsed (k + 1)) 0 (lines - 1)
-        at zero e = let z : true ≡ false = sym c ∙ s.fresh e in absurd (true≢false z)
-        at (suc n) e =
-            let q : line ≡ n + 1 = omega arith in
-            let y_is : y ≡ n = (s.last n q).0 in
-            let first : pulsed n ≡ true = sym (s.last n q).1 ∙ c in
-            let second : pulsed (n + 1) ≡ true = rw (← q) p in
-            rw y_is
-            (sym
-            (first_at (λ k. pulsed k && pulsed (k + 1)) 0 (lines - 1) n (omega arith) (omega arith) (λ k l r. s.none k (omega arith)) (rw (first, second))))
+    scanned_found lines h c p =
+        let some : 1 ≤ line = scanned_behind c in
+        let q : line ≡ line - 1 + 1 = omega arith in
+        let first : pulsed (line - 1) ≡ true = sym (s.last (line - 1) q) ∙ c in
+        let second : pulsed (line - 1 + 1) ≡ true = rw (← q) p in
+        sym
+        (first_at (λ k. pulsed k && pulsed (k + 1)) 0 (lines - 1) (line - 1) (omega arith) (omega arith) (λ k l r. s.none k (omega arith)) (rw (first, second)))

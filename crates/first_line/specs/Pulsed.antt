@@ -1,5 +1,5 @@
 -- The first line of the picture (01-scope.md, "Start search"): `first_pulsed_line` and `line_is_pulsed` of sync_start.rs. Definitions only.
-use Rattle.std.specs.Prelude.{ℕ, zero, suc, ◌+◌, ◌-◌, ◌*◌, min, max, Bool, false, cond, ◌&&◌, List, drop, pos, ◌==◌, is_nan, nat_le, slice_index, Float}
+use Rattle.std.specs.Prelude.{ℕ, zero, suc, ◌+◌, ◌-◌, ◌*◌, min, max, Bool, false, cond, ◌&&◌, List, drop, pos, ◌==◌, is_nan, nat_le, slice_index, Option, Some, None, Float}
 use Rattle.std.specs.Float.{fin, binary64}
 use Rattle.std.specs.Float.Ieee.{add, sub, mul, div, lt, le, to_unsigned}
 use Rattle.ieee.specs.Numbers.{of_nat, decimal}
@@ -8,8 +8,6 @@ use Rattle.modespec.specs.declared.ModeSpec.{ModeSpec}
 use Rattle.modespec.specs.Sizes.{line_samples, window_lines, working_rate}
 use Rattle.window_fold.specs.Fold.{lines_at, hit_at}
 use Rattle.first_line.specs.declared.Span.{Span}
-use Rattle.first_line.specs.declared.FirstLine.{FirstLine}
-use Rattle.first_line.specs.declared.FirstLine.TheVariants.{Missing, Line}
 
 -- ---- a narrow pulse
 
@@ -58,16 +56,16 @@ pulsed_line line pulse flags a column y =
     le (run_needed pulse) (of_nat (longest_to flags span.lo (span.hi - span.lo)))
 
 -- the first of the n lines from y on that passes a test
-unfoldable pub first_line : (ℕ → Bool) → ℕ → ℕ → FirstLine
-first_line test y zero = Missing
-first_line test y (suc n) = cond (test y) (Line y) (first_line test (suc y) n)
+unfoldable pub first_line : (ℕ → Bool) → ℕ → ℕ → Option ℕ
+first_line test y zero = None
+first_line test y (suc n) = cond (test y) (Some y) (first_line test (suc y) n)
 
 -- the first of `lines` lines y for which y and y + 1 are both pulsed
-unfoldable pub first_pair : (ℕ → Bool) → ℕ → FirstLine
+unfoldable pub first_pair : (ℕ → Bool) → ℕ → Option ℕ
 first_pair pulsed lines = first_line (λ y. pulsed y && pulsed (y + 1)) 0 (lines - 1)
 
 -- a is the smaller of 64j and 65, and index i means flag 64j - a + i. `first` is 64j.
-unfoldable pub narrow_line : ModeSpec → ℕ → List ℕ → ℕ → FirstLine
+unfoldable pub narrow_line : ModeSpec → ℕ → List ℕ → ℕ → Option ℕ
 narrow_line spec first flags column =
     let a = min first 65 in
     first_pair (pulsed_line (line_probes spec) (pulse_probes spec) (drop (first - a) flags) a column) (window_lines spec)
@@ -84,13 +82,13 @@ unfoldable pub half_set : Float → List ℕ → ℕ → ℕ → ℕ → Bool
 half_set samples window column width y = nat_le width (2 * hits_across samples window y column width)
 
 -- the first line with half its columns set, else line 0
-abbrev pub or_zero : FirstLine → FirstLine
-or_zero Missing = Line 0
-or_zero (Line y) = Line y
+abbrev pub or_zero : Option ℕ → Option ℕ
+or_zero None = Some 0
+or_zero (Some y) = Some y
 
-unfoldable pub wide_line : ModeSpec → List ℕ → ℕ → ℕ → FirstLine
+unfoldable pub wide_line : ModeSpec → List ℕ → ℕ → ℕ → Option ℕ
 wide_line spec window column width = or_zero (first_line (half_set (line_samples spec) window column width) 0 (window_lines spec))
 
 -- `first_pulsed_line`: a pulse of 20 columns and more is wide. The window begins at flag `first`.
-unfoldable pub first_pulsed_line : ModeSpec → ℕ → List ℕ → ℕ → ℕ → FirstLine
+unfoldable pub first_pulsed_line : ModeSpec → ℕ → List ℕ → ℕ → ℕ → Option ℕ
 first_pulsed_line spec first flags column width = cond (nat_le 20 width) (wide_line spec (drop first flags) column width) (narrow_line spec first flags column)

@@ -1,12 +1,11 @@
 -- What the proofs of `close` and `far` cite. Assumes nothing.
 use mathlib.Core.Path.{◌≡◌, refl, sym, ap, ◌∙◌, subst}
 use mathlib.Core.Logic.{◌⊎◌, inl, inr}
-use mathlib.Core.Bool.{Bool, false}
+use mathlib.Core.Bool.{Bool, true, false, beq}
 use Prim.Native.Nat.{ℕ, ◌+◌, ◌-◌, ◌*◌, ◌%◌, ◌^◌, ◌≤◌, ◌<◌}
 use native.Mathlib.Nat.{add-zero, add_comm, add-mul, mul_assoc, mul-lt-mul_of_pos_right}
 use native.Mathlib.Omega.{arith}
 use lib.IntN.{pos}
-use lib.Dec.{eqb}
 use lib.Pow.{pow-add, pow_pos}
 use lib.Bits.{bit_or}
 use lib.Arith.{digits_div, digits_mod}
@@ -14,7 +13,7 @@ use lib.Ieee.{Float, fin, binary64, round, sum, of_bits}
 use Rattle.ieee.proofs.Pack.{too_small}
 use Rattle.fma.specs.Near.{Near, exact, Placed, Settled, Summed, Jammed}
 use Rattle.fma.proofs.Cutting.{near_trans, near_cut, near_lt_back}
-use Rattle.fma.proofs.Sums.{sum_like, sum_less, sum_more, sum_none, sum_frac, signs_differ, Fine, add_near, sub_near, near_scale}
+use Rattle.fma.proofs.Sums.{sum_like, sum_less, sum_more, sum_none, sum_frac, like_signs, Fine, add_near, sub_near, near_scale}
 
 zero_round : round binary64 false 0 (2 ^ 2317) ≡ fin false 0 (pos 0)
 zero_round = too_small binary64 false 0 (2 ^ 2317) (pow_pos 2317) (pow_pos 2317)
@@ -22,11 +21,11 @@ zero_round = too_small binary64 false 0 (2 ^ 2317) (pow_pos 2317) (pow_pos 2317)
 abbrev Given : ℕ → ℕ → ℕ → ℕ → Type 0
 Given S i Z P = (Z * 2 ^ i ≡ S) ⊎ ((P % 2 ≡ 0) × (2 ^ 62 + Z ≤ P))
 
-pub settle_like : (s t P k Z W : ℕ) (r : Float) → s ≡ t → W ≡ P + Z → Placed s W k r → Settled s P k t Z r
+pub settle_like : (s t : Bool) (P k Z W : ℕ) (r : Float) → beq s t ≡ true → W ≡ P + Z → Placed s W k r → Settled s P k t Z r
 settle_like s t P k Z W r st w pl = record {
   is = λ S n g.
       pl.value (P * 2 ^ (k + 64) + S) (add_near P Z W S (k + 64) w n (fine S g))
-      ∙ sym (ap (λ (z : ℕ). sum binary64 (eqb s 1) (P * 2 ^ (k + 64)) (eqb z 1) S (2 ^ 2317)) (sym st) ∙ sum_like binary64 (eqb s 1) (P * 2 ^ (k + 64)) S (2 ^ 2317));
+      ∙ sym (ap (λ (z : Bool). sum binary64 s (P * 2 ^ (k + 64)) z S (2 ^ 2317)) (sym (like_signs s t st)) ∙ sum_like binary64 s (P * 2 ^ (k + 64)) S (2 ^ 2317));
 }
   where
     enough : (P Z W : ℕ) → W ≡ P + Z → 2 ^ 62 + Z ≤ P → 2 ^ 62 ≤ W
@@ -36,8 +35,8 @@ settle_like s t P k Z W r st w pl = record {
     fine S (inl e) = inl e
     fine S (inr g) = inr (g.0, enough P Z W w g.1)
 
-pub settle_less : (s t P k Z W : ℕ) (r : Float) → s < 2 → t < 2 → (s ≡ t → ⊥) → P < Z → W + P ≡ Z → Placed t W k r → Settled s P k t Z r
-settle_less s t P k Z W r a b d h w pl = record { is = λ S n g. go S g }
+pub settle_less : (s t : Bool) (P k Z W : ℕ) (r : Float) → beq s t ≡ false → P < Z → W + P ≡ Z → Placed t W k r → Settled s P k t Z r
+settle_less s t P k Z W r d h w pl = record { is = λ S n g. go S g }
   where
     none : (P Z : ℕ) → P < Z → 2 ^ 62 + Z ≤ P → ⊥
     none P Z x y = omega arith
@@ -45,16 +44,16 @@ settle_less s t P k Z W r a b d h w pl = record { is = λ S n g. go S g }
     diff : (a b c : ℕ) → a + b ≡ c → a ≡ c - b
     diff a b c x = omega arith
 
-    go : (S : ℕ) → Given S (k + 64) Z P → r ≡ sum binary64 (eqb s 1) (P * 2 ^ (k + 64)) (eqb t 1) S (2 ^ 2317)
+    go : (S : ℕ) → Given S (k + 64) Z P → r ≡ sum binary64 s (P * 2 ^ (k + 64)) t S (2 ^ 2317)
     go S (inr g) = absurd (none P Z h g.1)
     go S (inl e) =
         let U = 2 ^ (k + 64) in
         pl.value (W * U) (exact refl, inl refl)
-        ∙ ap (λ (z : ℕ). round binary64 (eqb t 1) z (2 ^ 2317)) (diff (W * U) (P * U) S (sym (add-mul W P U) ∙ ap (λ (z : ℕ). z * U) w ∙ e))
-        ∙ sym (sum_less binary64 (eqb s 1) (eqb t 1) (P * U) S (2 ^ 2317) (signs_differ s t a b d) (subst (λ (z : ℕ). P * U < z) e (mul-lt-mul_of_pos_right h (pow_pos (k + 64)))))
+        ∙ ap (λ (z : ℕ). round binary64 t z (2 ^ 2317)) (diff (W * U) (P * U) S (sym (add-mul W P U) ∙ ap (λ (z : ℕ). z * U) w ∙ e))
+        ∙ sym (sum_less binary64 s t (P * U) S (2 ^ 2317) d (subst (λ (z : ℕ). P * U < z) e (mul-lt-mul_of_pos_right h (pow_pos (k + 64)))))
 
-pub settle_more : (s t P k Z W : ℕ) (r : Float) → s < 2 → t < 2 → (s ≡ t → ⊥) → Z < P → W + Z ≡ P → Placed s W k r → Settled s P k t Z r
-settle_more s t P k Z W r a b d h w pl = record { is = λ S n g. go S (sub_near P Z W S (k + 64) w n (fine S g)) }
+pub settle_more : (s t : Bool) (P k Z W : ℕ) (r : Float) → beq s t ≡ false → Z < P → W + Z ≡ P → Placed s W k r → Settled s P k t Z r
+settle_more s t P k Z W r d h w pl = record { is = λ S n g. go S (sub_near P Z W S (k + 64) w n (fine S g)) }
   where
     some : (P Z W : ℕ) → W + Z ≡ P → Z < P → 0 < W
     some P Z W x y = omega arith
@@ -66,12 +65,12 @@ settle_more s t P k Z W r a b d h w pl = record { is = λ S n g. go S (sub_near 
     fine S (inl e) = inl e
     fine S (inr g) = inr (g.0, enough P Z W w g.1)
 
-    go : (S : ℕ) → Rattle.fma.proofs.Sums.Less P Z W S (k + 64) → r ≡ sum binary64 (eqb s 1) (P * 2 ^ (k + 64)) (eqb t 1) S (2 ^ 2317)
-    go S l = pl.value (P * 2 ^ (k + 64) - S) l.strong ∙ sym (sum_more binary64 (eqb s 1) (eqb t 1) (P * 2 ^ (k + 64)) S (2 ^ 2317) (signs_differ s t a b d) (l.below (some P Z W w h)))
+    go : (S : ℕ) → Rattle.fma.proofs.Sums.Less P Z W S (k + 64) → r ≡ sum binary64 s (P * 2 ^ (k + 64)) t S (2 ^ 2317)
+    go S l = pl.value (P * 2 ^ (k + 64) - S) l.strong ∙ sym (sum_more binary64 s t (P * 2 ^ (k + 64)) S (2 ^ 2317) d (l.below (some P Z W w h)))
 
 -- they undo each other
-pub settle_none : (s t P k Z : ℕ) → s < 2 → t < 2 → (s ≡ t → ⊥) → P ≤ Z → Z ≤ P → Settled s P k t Z (of_bits binary64 0)
-settle_none s t P k Z a b d x y = record { is = λ S n g. go S g }
+pub settle_none : (s t : Bool) (P k Z : ℕ) → beq s t ≡ false → P ≤ Z → Z ≤ P → Settled s P k t Z (of_bits binary64 0)
+settle_none s t P k Z d x y = record { is = λ S n g. go S g }
   where
     same : (P Z : ℕ) → P ≤ Z → Z ≤ P → P ≡ Z
     same P Z x y = omega arith
@@ -82,9 +81,9 @@ settle_none s t P k Z a b d x y = record { is = λ S n g. go S g }
     plus : of_bits binary64 0 ≡ fin false 0 (pos 0)
     plus = unfold of_bits in refl
 
-    go : (S : ℕ) → Given S (k + 64) Z P → of_bits binary64 0 ≡ sum binary64 (eqb s 1) (P * 2 ^ (k + 64)) (eqb t 1) S (2 ^ 2317)
+    go : (S : ℕ) → Given S (k + 64) Z P → of_bits binary64 0 ≡ sum binary64 s (P * 2 ^ (k + 64)) t S (2 ^ 2317)
     go S (inr g) = absurd (none P Z x g.1)
-    go S (inl e) = plus ∙ sym zero_round ∙ sym (sum_none binary64 (eqb s 1) (eqb t 1) (P * 2 ^ (k + 64)) S (2 ^ 2317) (signs_differ s t a b d) (ap (λ (z : ℕ). z * 2 ^ (k + 64)) (same P Z x y) ∙ e))
+    go S (inl e) = plus ∙ sym zero_round ∙ sym (sum_none binary64 s t (P * 2 ^ (k + 64)) S (2 ^ 2317) d (ap (λ (z : ℕ). z * 2 ^ (k + 64)) (same P Z x y) ∙ e))
 
 -- ---- 2 ^ 64 taken out of a sum
 pub sum_64 : (s t : Bool) (A B a b : ℕ) → A ≡ a * 2 ^ 64 → B ≡ b * 2 ^ 64 → sum binary64 s A t B (2 ^ 2317) ≡ sum binary64 s a t b (2 ^ 2253)
@@ -128,8 +127,8 @@ far_add_fits q h u a b c = omega arith
 pub far_sub_le : (q h u : ℕ) → 2 ^ 52 ≤ q → q < 2 ^ 53 → h < 2 ^ 43 → u ≤ h + 1 → u ≤ q * 2 ^ 11 % 2 ^ 64
 far_sub_le q h u a b c d = omega arith
 
-module _ (s t P k q d h u : ℕ) (r : Float) (qlo : 2 ^ 52 ≤ q) (qhi : q < 2 ^ 53) (hh : h < 2 ^ 43) (n : Near P 64 h) (gap : k + 74 < d) where
-  pub far_like : s ≡ t → Jammed h (d - k - 74) u → Placed t (0 * 2 ^ 64 + (q * 2 ^ 10 % 2 ^ 64 + u)) (d - 10) r → Summed s P k t q d r
+module _ (s t : Bool) (P k q d h u : ℕ) (r : Float) (qlo : 2 ^ 52 ≤ q) (qhi : q < 2 ^ 53) (hh : h < 2 ^ 43) (n : Near P 64 h) (gap : k + 74 < d) where
+  pub far_like : beq s t ≡ true → Jammed h (d - k - 74) u → Placed t (0 * 2 ^ 64 + (q * 2 ^ 10 % 2 ^ 64 + u)) (d - 10) r → Summed s P k t q d r
   far_like st j pl =
       let W = q * 2 ^ 10 + u in
       let i = d - 10 + 64 in
@@ -140,10 +139,10 @@ module _ (s t P k q d h u : ℕ) (r : Float) (qlo : 2 ^ 52 ≤ q) (qhi : q < 2 ^
       record {
         is =
             pl'.value (Q + S) (add_near (q * 2 ^ 10) u W S i refl (in_scale P k q d h u 10 n j g) (inr (even q, big q u qlo)))
-            ∙ ap (λ (z : ℕ). round binary64 (eqb t 1) z (2 ^ 2317)) (add_comm Q S)
-            ∙ sym (sum_like binary64 (eqb t 1) S Q (2 ^ 2317))
-            ∙ ap (λ (z : ℕ). sum binary64 (eqb z 1) S (eqb t 1) Q (2 ^ 2317)) (sym st)
-            ∙ sum_64 (eqb s 1) (eqb t 1) S Q (P * 2 ^ k) (q * 2 ^ d) (P_is P k q d h u 10 n j g) (q_is P k q d h u 10 n j g);
+            ∙ ap (λ (z : ℕ). round binary64 t z (2 ^ 2317)) (add_comm Q S)
+            ∙ sym (sum_like binary64 t S Q (2 ^ 2317))
+            ∙ ap (λ (z : Bool). sum binary64 z S t Q (2 ^ 2317)) (sym (like_signs s t st))
+            ∙ sum_64 s t S Q (P * 2 ^ k) (q * 2 ^ d) (P_is P k q d h u 10 n j g) (q_is P k q d h u 10 n j g);
       }
     where
       room : (k d : ℕ) → k + 74 < d → k + 64 + 10 ≤ d
@@ -158,8 +157,8 @@ module _ (s t P k q d h u : ℕ) (r : Float) (qlo : 2 ^ 52 ≤ q) (qhi : q < 2 ^
       even : (q : ℕ) → (q * 2 ^ 10) % 2 ≡ 0
       even q = omega arith
 
-  pub far_unlike : s < 2 → t < 2 → (s ≡ t → ⊥) → Jammed h (d - k - 75) u → Placed t (0 * 2 ^ 64 + (q * 2 ^ 11 % 2 ^ 64 - u)) (d - 11) r → Summed s P k t q d r
-  far_unlike a b df j pl =
+  pub far_unlike : beq s t ≡ false → Jammed h (d - k - 75) u → Placed t (0 * 2 ^ 64 + (q * 2 ^ 11 % 2 ^ 64 - u)) (d - 11) r → Summed s P k t q d r
+  far_unlike df j pl =
       let W = q * 2 ^ 11 - u in
       let i = d - 11 + 64 in
       let S = P * 2 ^ (k + 64) in
@@ -171,8 +170,8 @@ module _ (s t P k q d h u : ℕ) (r : Float) (qlo : 2 ^ 52 ≤ q) (qhi : q < 2 ^
       record {
         is =
             pl'.value (Q - S) l.strong
-            ∙ sym (sum_less binary64 (eqb s 1) (eqb t 1) S Q (2 ^ 2317) (signs_differ s t a b df) (l.below w))
-            ∙ sum_64 (eqb s 1) (eqb t 1) S Q (P * 2 ^ k) (q * 2 ^ d) (P_is P k q d h u 11 n j g) (q_is P k q d h u 11 n j g);
+            ∙ sym (sum_less binary64 s t S Q (2 ^ 2317) df (l.below w))
+            ∙ sum_64 s t S Q (P * 2 ^ k) (q * 2 ^ d) (P_is P k q d h u 11 n j g) (q_is P k q d h u 11 n j g);
       }
     where
       room : (k d : ℕ) → k + 74 < d → k + 64 + 11 ≤ d

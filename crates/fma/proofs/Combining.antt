@@ -1,10 +1,11 @@
 -- What the proof of `combined` cites. Assumes nothing.
 use mathlib.Core.Path.{◌≡◌, refl, sym, ap, ◌∙◌, subst}
 use mathlib.Core.Logic.{◌⊎◌, inl, inr}
+use mathlib.Core.Bool.{Bool}
 use Prim.Native.Nat.{ℕ, ◌+◌, ◌-◌, ◌*◌, ◌/◌, ◌%◌, ◌^◌, ◌≤◌, ◌<◌, zero-le}
 use native.Mathlib.Nat.{le_trans, le_of_lt, lt_of_lt_of_le, lt_of_le_of_lt, eq-zero-or-pos, zero-mul, mul_comm, mul_assoc, mul-le-mul, mul-le-mul_right, mul-lt-mul_of_pos_left, lt_of_mul-lt-mul_right, le-add_right}
 use native.Mathlib.Omega.{arith}
-use lib.Dec.{eqb, lit≤}
+use lib.Dec.{lit≤}
 use lib.Pow.{pow-add, pow_mono, shl_lt}
 use lib.Ieee.{Float}
 use Rattle.fma.specs.Near.{Near, exact, Factors, Jammed, Settled, Summed}
@@ -52,19 +53,19 @@ module _ (a b hi lo : ℕ) (F : Factors a b) (e : hi * 2 ^ 64 + lo ≡ a * b) wh
       twice : (z : ℕ) → (2 * z) % 2 ≡ 0
       twice z = omega arith
 
-  pub sum_far : (s k t q d : ℕ) (r : Float) → Summed s (hi * 2 ^ 64 + lo) k t q d r → Summed s (a * b) k t q d r
+  pub sum_far : (s : Bool) (k : ℕ) (t : Bool) (q d : ℕ) (r : Float) → Summed s (hi * 2 ^ 64 + lo) k t q d r → Summed s (a * b) k t q d r
   sum_far s k t q d r x = subst (λ (z : ℕ). Summed s z k t q d r) e x
 
   P_is : (k : ℕ) → (hi * 2 ^ 64 + lo) * 2 ^ (k + 64) ≡ a * b * 2 ^ k * 2 ^ 64
   P_is k = ap (λ (z : ℕ). z * 2 ^ (k + 64)) e ∙ ap (λ (z : ℕ). a * b * z) (pow-add 2 k 64) ∙ sym (mul_assoc (a * b) (2 ^ k) (2 ^ 64))
 
   -- the product is 0
-  pub sum_second : (s k t q d : ℕ) (r : Float) → hi ≡ 0 → lo < 2 ^ 64 → Settled s (hi * 2 ^ 64 + lo) d t (0 * 2 ^ 64 + q) r → Summed s (a * b) k t q d r
+  pub sum_second : (s : Bool) (k : ℕ) (t : Bool) (q d : ℕ) (r : Float) → hi ≡ 0 → lo < 2 ^ 64 → Settled s (hi * 2 ^ 64 + lo) d t (0 * 2 ^ 64 + q) r → Summed s (a * b) k t q d r
   sum_second s k t q d r z l x =
       let n : a * b ≡ 0 = p_none z l in
       record {
         is = x.is ((0 * 2 ^ 64 + q) * 2 ^ (d + 64)) (exact refl) (inl refl)
-            ∙ sum_64 (eqb s 1) (eqb t 1) ((hi * 2 ^ 64 + lo) * 2 ^ (d + 64)) ((0 * 2 ^ 64 + q) * 2 ^ (d + 64)) (a * b * 2 ^ k) (q * 2 ^ d)
+            ∙ sum_64 s t ((hi * 2 ^ 64 + lo) * 2 ^ (d + 64)) ((0 * 2 ^ 64 + q) * 2 ^ (d + 64)) (a * b * 2 ^ k) (q * 2 ^ d)
             (ap (λ (y : ℕ). y * 2 ^ (d + 64)) (e ∙ n) ∙ zero-mul (2 ^ (d + 64)) ∙ sym (zero-mul (2 ^ 64)) ∙ ap (λ (y : ℕ). y * 2 ^ 64) (sym (zero-mul (2 ^ k)) ∙ ap (λ (y : ℕ). y * 2 ^ k) (sym n)))
             (ap (λ (y : ℕ). y * 2 ^ (d + 64)) (tidy q) ∙ ap (λ (y : ℕ). q * y) (pow-add 2 d 64) ∙ sym (mul_assoc q (2 ^ d) (2 ^ 64)));
       }
@@ -73,18 +74,18 @@ module _ (a b hi lo : ℕ) (F : Factors a b) (e : hi * 2 ^ 64 + lo ≡ a * b) wh
       tidy q = omega arith
 
   -- the second value is
-  pub sum_first : (s k t q d : ℕ) (r : Float) → q ≡ 0 → Settled s (hi * 2 ^ 64 + lo) k t (0 * 2 ^ 64 + 0) r → Summed s (a * b) k t q d r
+  pub sum_first : (s : Bool) (k : ℕ) (t : Bool) (q d : ℕ) (r : Float) → q ≡ 0 → Settled s (hi * 2 ^ 64 + lo) k t (0 * 2 ^ 64 + 0) r → Summed s (a * b) k t q d r
   sum_first s k t q d r z x = record {
     is = x.is ((0 * 2 ^ 64 + 0) * 2 ^ (k + 64)) (exact refl) (inl refl)
-        ∙ sum_64 (eqb s 1) (eqb t 1) ((hi * 2 ^ 64 + lo) * 2 ^ (k + 64)) ((0 * 2 ^ 64 + 0) * 2 ^ (k + 64)) (a * b * 2 ^ k) (q * 2 ^ d) (P_is k)
+        ∙ sum_64 s t ((hi * 2 ^ 64 + lo) * 2 ^ (k + 64)) ((0 * 2 ^ 64 + 0) * 2 ^ (k + 64)) (a * b * 2 ^ k) (q * 2 ^ d) (P_is k)
         (zero-mul (2 ^ (k + 64)) ∙ sym (zero-mul (2 ^ 64)) ∙ ap (λ (y : ℕ). y * 2 ^ 64) (sym (zero-mul (2 ^ d)) ∙ ap (λ (y : ℕ). y * 2 ^ d) (sym z)));
   }
 
   -- the second value is not below the first in scale
-  pub sum_above : (s k t q d zh zl : ℕ) (r : Float) → k ≤ d → zh * 2 ^ 64 + zl ≡ q * 2 ^ (d - k) → Settled s (hi * 2 ^ 64 + lo) k t (zh * 2 ^ 64 + zl) r → Summed s (a * b) k t q d r
+  pub sum_above : (s : Bool) (k : ℕ) (t : Bool) (q d zh zl : ℕ) (r : Float) → k ≤ d → zh * 2 ^ 64 + zl ≡ q * 2 ^ (d - k) → Settled s (hi * 2 ^ 64 + lo) k t (zh * 2 ^ 64 + zl) r → Summed s (a * b) k t q d r
   sum_above s k t q d zh zl r h z x = record {
     is = x.is ((zh * 2 ^ 64 + zl) * 2 ^ (k + 64)) (exact refl) (inl refl)
-        ∙ sum_64 (eqb s 1) (eqb t 1) ((hi * 2 ^ 64 + lo) * 2 ^ (k + 64)) ((zh * 2 ^ 64 + zl) * 2 ^ (k + 64)) (a * b * 2 ^ k) (q * 2 ^ d) (P_is k)
+        ∙ sum_64 s t ((hi * 2 ^ 64 + lo) * 2 ^ (k + 64)) ((zh * 2 ^ 64 + zl) * 2 ^ (k + 64)) (a * b * 2 ^ k) (q * 2 ^ d) (P_is k)
         (ap (λ (y : ℕ). y * 2 ^ (k + 64)) z ∙ mul_assoc q (2 ^ (d - k)) (2 ^ (k + 64)) ∙ ap (λ (y : ℕ). q * y) (sym (pow-add 2 (d - k) (k + 64)) ∙ ap (λ (y : ℕ). 2 ^ y) (go d k h) ∙ pow-add 2 d 64) ∙ sym (mul_assoc q (2 ^ d) (2 ^ 64)));
   }
     where
@@ -92,10 +93,10 @@ module _ (a b hi lo : ℕ) (F : Factors a b) (e : hi * 2 ^ 64 + lo ≡ a * b) wh
       go d k x = omega arith
 
   -- it is
-  pub sum_below : (s k t q d u : ℕ) (r : Float) → (hi ≡ 0 → ⊥) → d < k → q < 2 ^ 53 → Jammed q (k - d) u → Settled s (hi * 2 ^ 64 + lo) k t (0 * 2 ^ 64 + u) r → Summed s (a * b) k t q d r
+  pub sum_below : (s : Bool) (k : ℕ) (t : Bool) (q d u : ℕ) (r : Float) → (hi ≡ 0 → ⊥) → d < k → q < 2 ^ 53 → Jammed q (k - d) u → Settled s (hi * 2 ^ 64 + lo) k t (0 * 2 ^ 64 + u) r → Summed s (a * b) k t q d r
   sum_below s k t q d u r m h l j x = record {
     is = x.is (q * 2 ^ (d + 64)) (subst (λ (y : ℕ). Near (q * 2 ^ (d + 64)) (k + 64) y) (tidy u) (subst (λ (y : ℕ). Near (q * 2 ^ (d + 64)) y u) (go d k h) (near_scale q (k - d) u (d + 64) j.near))) (inr (p_even, le_trans (most q u l j.small) (le_trans (lit≤ tt) (p_lo m))))
-        ∙ sum_64 (eqb s 1) (eqb t 1) ((hi * 2 ^ 64 + lo) * 2 ^ (k + 64)) (q * 2 ^ (d + 64)) (a * b * 2 ^ k) (q * 2 ^ d) (P_is k) (ap (λ (y : ℕ). q * y) (pow-add 2 d 64) ∙ sym (mul_assoc q (2 ^ d) (2 ^ 64)));
+        ∙ sum_64 s t ((hi * 2 ^ 64 + lo) * 2 ^ (k + 64)) (q * 2 ^ (d + 64)) (a * b * 2 ^ k) (q * 2 ^ d) (P_is k) (ap (λ (y : ℕ). q * y) (pow-add 2 d 64) ∙ sym (mul_assoc q (2 ^ d) (2 ^ 64)));
   }
     where
       go : (d k : ℕ) → d < k → k - d + (d + 64) ≡ k + 64

@@ -38,9 +38,6 @@ sign_is b h = go (leb (2 ^ 63) b) (leb→le (2 ^ 63) b) (nleb→lt (2 ^ 63) b)
     go true k l = ap (λ (z : ℕ). eqb z 1) (at_one (k tt))
     go false k l = ap (λ (z : ℕ). eqb z 1) (at_none (l tt))
 
-pub sign_lt : (b : ℕ) → b < 2 ^ 64 → b / 2 ^ 63 < 2
-sign_lt b h = omega arith
-
 -- ---- `fma`, by any fractions over K that the three values equal
 first : (M N de dd dg X Y K : ℕ) → M * K ≡ X * de → N * K ≡ Y * dd → M * N * dg * (K * K) ≡ X * Y * (de * dd * dg)
 first M N de dd dg X Y K p q =
@@ -86,10 +83,10 @@ fourth Z qz p H J K L C a c l =
     let y : Z * H * (J * (K * K)) ≡ Z * K * (H * J * K) = simp (mul_assoc, mul_comm, mul_left_comm) in
     sym (ap (λ (z : ℕ). qz * (p * J) * z) l ∙ x ∙ ap (λ (z : ℕ). z * (J * (K * K))) a ∙ y ∙ ap (λ (z : ℕ). Z * K * z) (sym c))
 
-pub fma_digits : (bx by bz s qx kx qy ky qz kz : ℕ) (r : Float) → Finite bx → Finite by → Finite bz
-    → eqb s 1 ≡ unlike (eqb (bx / 2 ^ 63) 1) (eqb (by / 2 ^ 63) 1)
+pub fma_digits : (bx by bz : ℕ) (s : Bool) (qx kx qy ky qz kz : ℕ) (r : Float) → Finite bx → Finite by → Finite bz
+    → s ≡ unlike (eqb (bx / 2 ^ 63) 1) (eqb (by / 2 ^ 63) 1)
     → Digits (bx / 2 ^ 52 % 2 ^ 11) (bx % 2 ^ 52) qx kx → Digits (by / 2 ^ 52 % 2 ^ 11) (by % 2 ^ 52) qy ky → Digits (bz / 2 ^ 52 % 2 ^ 11) (bz % 2 ^ 52) qz kz
-    → Summed s (qx * 2 % 2 ^ 64 * qy) (kx + ky) (bz / 2 ^ 63) qz (kz + 1127) r
+    → Summed s (qx * 2 % 2 ^ 64 * qy) (kx + ky) (eqb (bz / 2 ^ 63) 1) qz (kz + 1127) r
     → r ≡ fma binary64 (of_bits binary64 bx) (of_bits binary64 by) (of_bits binary64 bz)
 fma_digits bx by bz s qx kx qy ky qz kz r ux uy uz sg dx dy dz h =
     let X = lead binary64 (bx / 2 ^ 52 % 2 ^ 11) (bx % 2 ^ 52) * 2 ^ expo (bx / 2 ^ 52 % 2 ^ 11) in
@@ -203,17 +200,6 @@ all_back x y z r a b c h =
     ∙ ap (λ (v : Float). fma binary64 v (of_bits binary64 (to_bits binary64 y)) (of_bits binary64 (to_bits binary64 z))) (of_bits-to_bits binary64 x a)
     ∙ ap (λ (v : Float). fma binary64 x v (of_bits binary64 (to_bits binary64 z))) (of_bits-to_bits binary64 y b)
     ∙ ap (λ (v : Float). fma binary64 x y v) (of_bits-to_bits binary64 z c)
-
--- ---- `sign_of`
-pub like_signs : (s t : ℕ) → s ≡ t → false ≡ unlike (eqb s 1) (eqb t 1)
-like_signs s t e = subst (λ (z : ℕ). false ≡ unlike (eqb s 1) (eqb z 1)) e (go (eqb s 1))
-  where
-    go : (b : Bool) → false ≡ unlike b b
-    go true = refl
-    go false = refl
-
-pub unlike_signs : (s t : ℕ) → s < 2 → t < 2 → (s ≡ t → ⊥) → true ≡ unlike (eqb s 1) (eqb t 1)
-unlike_signs s t a b n = ap not (sym (Rattle.fma.proofs.Sums.signs_differ s t a b n))
 
 -- ---- what `fused` asks of each pattern, with its masks
 pub asked : (b : ℕ) → Finite b → (bit_and (b / 2 ^ 52) (2 ^ 11 - 1) < 2047) × (bit_and b (2 ^ 52 - 1) < 2 ^ 52)

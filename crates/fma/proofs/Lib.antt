@@ -1,4 +1,5 @@
 -- What the proofs of several functions use.
+mod Same
 mod Sticky
 mod Ends
 mod Cutting

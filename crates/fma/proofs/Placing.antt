@@ -1,12 +1,13 @@
 -- What the proof of `rounded` cites. Assumes nothing.
 use mathlib.Core.Path.{◌≡◌, refl, sym, ap, ◌∙◌, subst}
 use mathlib.Core.Logic.{◌⊎◌, inl, inr}
-use mathlib.Core.Bool.{Bool, not, cond}
-use Prim.Native.Nat.{ℕ, zero, suc, ◌+◌, ◌-◌, ◌*◌, ◌%◌, ◌^◌, ◌≤◌, ◌<◌}
+use mathlib.Core.Bool.{Bool, true, false, not, cond}
+use Prim.Native.Nat.{ℕ, suc, ◌+◌, ◌-◌, ◌*◌, ◌%◌, ◌^◌, ◌≤◌, ◌<◌}
 use native.Mathlib.Nat.{le_trans, lt_of_lt_of_le, lt_of_le_of_lt, lt_of_not-le, lt_irrefl, add-zero, add-mul, zero-mul, mul_assoc, mul_comm, le-add_right, eq_of_mul-eq-mul_right, lt_of_mul-lt-mul_right, le_of_mul-le-mul_right, add-sub_of_le}
 use native.Mathlib.Omega.{arith}
 use lib.IntN.{pos}
-use lib.Dec.{T, eqb, lit<}
+use mir.Val.{bool_byte}
+use lib.Dec.{T, lit<}
 use lib.Pow.{pow-add, pow_pos, pow_mono}
 use lib.Count.{count_leading_zeros, leading_top, leading_le}
 use lib.Ieee.{fin, binary64, round, is_nan, nan_bits, of_bits}
@@ -16,26 +17,22 @@ use Rattle.fma.specs.Near.{Near, exact, inside, Strong, Top, Finished, Placed}
 use Rattle.fma.proofs.Cutting.{near_trans, c_le}
 use Rattle.fma.proofs.Ends.{zero_bits}
 
-pub sign_bits : (s : ℕ) → s < 2 → s * 2 ^ 63 % 2 ^ 64 ≡ cond (eqb s 1) (2 ^ 63) 0
-sign_bits zero h = refl
-sign_bits (suc zero) h = refl
-sign_bits (suc (suc s)) h = absurd (go s h)
-  where
-    go : (s : ℕ) → suc (suc s) < 2 → ⊥
-    go s x = omega arith
+pub sign_bits : (s : Bool) → bool_byte s * 2 ^ 63 % 2 ^ 64 ≡ cond s (2 ^ 63) 0
+sign_bits true = refl
+sign_bits false = refl
 
-pub pattern_no_nan : (s v i r : ℕ) → s < 2 → Finished v i r → T (not (nan_bits binary64 (s * 2 ^ 63 % 2 ^ 64 + r)))
-pattern_no_nan s v i r h f =
+pub pattern_no_nan : (s : Bool) (v i r : ℕ) → Finished v i r → T (not (nan_bits binary64 (bool_byte s * 2 ^ 63 % 2 ^ 64 + r)))
+pattern_no_nan s v i r f =
     subst (λ (b : Bool). T (not b))
-    (sym (nan_bits_is binary64 (s * 2 ^ 63 % 2 ^ 64 + r) ∙ ap is_nan (ap (λ (z : ℕ). of_bits binary64 (z + r)) (sign_bits s h) ∙ f.value (eqb s 1) (v * 2 ^ i) (exact refl))))
-    (round_no_nan binary64 (eqb s 1) (v * 2 ^ i) (2 ^ 2317))
+    (sym (nan_bits_is binary64 (bool_byte s * 2 ^ 63 % 2 ^ 64 + r) ∙ ap is_nan (ap (λ (z : ℕ). of_bits binary64 (z + r)) (sign_bits s) ∙ f.value s (v * 2 ^ i) (exact refl))))
+    (round_no_nan binary64 s (v * 2 ^ i) (2 ^ 2317))
 
 -- a sign alone is a zero's pattern
-sign_only : (s : ℕ) → s < 2 → of_bits binary64 (s * 2 ^ 63 % 2 ^ 64) ≡ fin (eqb s 1) 0 (pos 0)
-sign_only s h = ap (λ (z : ℕ). of_bits binary64 z) (sign_bits s h ∙ sym (add-zero (cond (eqb s 1) (2 ^ 63) 0))) ∙ zero_bits (eqb s 1)
+sign_only : (s : Bool) → of_bits binary64 (bool_byte s * 2 ^ 63 % 2 ^ 64) ≡ fin s 0 (pos 0)
+sign_only s = ap (λ (z : ℕ). of_bits binary64 z) (sign_bits s ∙ sym (add-zero (cond s (2 ^ 63) 0))) ∙ zero_bits s
 
-pub sign_no_nan : (s : ℕ) → s < 2 → T (not (nan_bits binary64 (s * 2 ^ 63 % 2 ^ 64)))
-sign_no_nan s h = subst (λ (b : Bool). T (not b)) (sym (nan_bits_is binary64 (s * 2 ^ 63 % 2 ^ 64) ∙ ap is_nan (sign_only s h))) (unfold is_nan in tt)
+pub sign_no_nan : (s : Bool) → T (not (nan_bits binary64 (bool_byte s * 2 ^ 63 % 2 ^ 64)))
+sign_no_nan s = subst (λ (b : Bool). T (not b)) (sym (nan_bits_is binary64 (bool_byte s * 2 ^ 63 % 2 ^ 64) ∙ ap is_nan (sign_only s))) (unfold is_nan in tt)
 
 -- ---- the same with 2 ^ 64 taken out of both sides
 unscale : (w n v u : ℕ) → u ≡ w * 2 ^ 64 → Near u (64 + n) v → Near w n v
@@ -61,7 +58,7 @@ unscale w n v u x (inside h r y e p l) =
     first : (d : ℕ) → 0 < d * 2 ^ 64 → 0 < d
     first d q = omega arith
 
-module _ (sign hi lo j : ℕ) (sg : sign < 2) (H : hi < 2 ^ 64) (L : lo < 2 ^ 64) where
+module _ (sign : Bool) (hi lo j : ℕ) (H : hi < 2 ^ 64) (L : lo < 2 ^ 64) where
   pub zeros_fit : (a : ℕ) → count_leading_zeros 64 a < 2 ^ 64
   zeros_fit a = lt_of_le_of_lt (leading_le 64 a) (lit< tt)
 
@@ -72,11 +69,11 @@ module _ (sign hi lo j : ℕ) (sg : sign < 2) (H : hi < 2 ^ 64) (L : lo < 2 ^ 64
       go j m = omega arith
 
   -- the upper limb is not 0
-  pub place_high : (c v r : ℕ) → 0 < hi → c ≡ count_leading_zeros 64 hi → Top hi lo c v → Finished v (j + 129 - c) r → Placed sign (hi * 2 ^ 64 + lo) j (of_bits binary64 (sign * 2 ^ 63 % 2 ^ 64 + r))
+  pub place_high : (c v r : ℕ) → 0 < hi → c ≡ count_leading_zeros 64 hi → Top hi lo c v → Finished v (j + 129 - c) r → Placed sign (hi * 2 ^ 64 + lo) j (of_bits binary64 (bool_byte sign * 2 ^ 63 % 2 ^ 64 + r))
   place_high c v r p zc t f = record {
     value = λ S st.
-        ap (λ (z : ℕ). of_bits binary64 (z + r)) (sign_bits sign sg)
-        ∙ f.value (eqb sign 1) S (subst (λ (k : ℕ). Near S k v) (at j c (c_le hi lo c H L p zc)) (near_trans S (j + 64) (hi * 2 ^ 64 + lo) (65 - c) v st.0 t.near));
+        ap (λ (z : ℕ). of_bits binary64 (z + r)) (sign_bits sign)
+        ∙ f.value sign S (subst (λ (k : ℕ). Near S k v) (at j c (c_le hi lo c H L p zc)) (near_trans S (j + 64) (hi * 2 ^ 64 + lo) (65 - c) v st.0 t.near));
   }
     where
       at : (j c : ℕ) → c ≤ 63 → j + 64 + (65 - c) ≡ j + 129 - c
@@ -100,11 +97,11 @@ module _ (sign hi lo j : ℕ) (sg : sign < 2) (H : hi < 2 ^ 64) (L : lo < 2 ^ 64
       go : (a b : ℕ) → a ≤ 0 → a * 2 ^ 64 + b ≡ b
       go a b x = omega arith
 
-  pub place_low : (c v r : ℕ) → hi ≤ 0 → 0 < lo → c ≡ count_leading_zeros 64 lo → Top lo 0 c v → Finished v (j + 65 - c) r → Placed sign (hi * 2 ^ 64 + lo) j (of_bits binary64 (sign * 2 ^ 63 % 2 ^ 64 + r))
+  pub place_low : (c v r : ℕ) → hi ≤ 0 → 0 < lo → c ≡ count_leading_zeros 64 lo → Top lo 0 c v → Finished v (j + 65 - c) r → Placed sign (hi * 2 ^ 64 + lo) j (of_bits binary64 (bool_byte sign * 2 ^ 63 % 2 ^ 64 + r))
   place_low c v r h p zc t f =
       let small : c ≤ 63 = c_le lo 0 c L (pow_pos 64) p zc in
       record {
-        value = λ S st. ap (λ (z : ℕ). of_bits binary64 (z + r)) (sign_bits sign sg) ∙ f.value (eqb sign 1) S (go S small (subst (λ (w : ℕ). Strong S (j + 64) w) (lo_only h) st));
+        value = λ S st. ap (λ (z : ℕ). of_bits binary64 (z + r)) (sign_bits sign) ∙ f.value sign S (go S small (subst (λ (w : ℕ). Strong S (j + 64) w) (lo_only h) st));
       }
     where
       at1 : (j c : ℕ) → c ≤ 63 → j + (65 - c) ≡ j + 65 - c
@@ -126,8 +123,8 @@ module _ (sign hi lo j : ℕ) (sg : sign < 2) (H : hi < 2 ^ 64) (L : lo < 2 ^ 64
           (near_trans S (j + 64) lo (1 - c) v n (unscale lo (1 - c) v (lo * 2 ^ 64 + 0) (add-zero (lo * 2 ^ 64)) (subst (λ (k : ℕ). Near (lo * 2 ^ 64 + 0) k v) (at3 c c1) t.near)))
 
   -- both are 0
-  pub place_none : hi ≤ 0 → lo ≤ 0 → Placed sign (hi * 2 ^ 64 + lo) j (of_bits binary64 (sign * 2 ^ 63 % 2 ^ 64))
-  place_none h l = record { value = λ S st. sign_only sign sg ∙ sym (too_small binary64 (eqb sign 1) 0 (2 ^ 2317) (pow_pos 2317) (pow_pos 2317)) ∙ ap (λ (z : ℕ). round binary64 (eqb sign 1) z (2 ^ 2317)) (none S st.1) }
+  pub place_none : hi ≤ 0 → lo ≤ 0 → Placed sign (hi * 2 ^ 64 + lo) j (of_bits binary64 (bool_byte sign * 2 ^ 63 % 2 ^ 64))
+  place_none h l = record { value = λ S st. sign_only sign ∙ sym (too_small binary64 sign 0 (2 ^ 2317) (pow_pos 2317) (pow_pos 2317)) ∙ ap (λ (z : ℕ). round binary64 sign z (2 ^ 2317)) (none S st.1) }
     where
       no_limbs : (a b : ℕ) → a ≤ 0 → b ≤ 0 → a * 2 ^ 64 + b ≡ 0
       no_limbs a b x y = omega arith

@@ -5,7 +5,7 @@ use mathlib.Core.Bool.{Bool, true, false, ◌&&◌, beq, cond}
 use Prim.Native.Nat.{ℕ, zero, suc, ◌+◌, ◌-◌, ◌*◌, ◌/◌, ◌%◌, ◌^◌, ◌≤◌, ◌<◌}
 use native.Mathlib.Nat.{le_of_eq, le_of_lt, lt_of_lt_of_le, zero-mul, add-mul, add_assoc, mul_comm, mul_assoc, mul_left_comm, mul-pos, mul-lt-mul_of_pos_right, pow-succ', lt_of_mul-lt-mul_right, eq_of_mul-eq-mul_right, mul-sub}
 use native.Mathlib.Omega.{arith}
-use lib.Dec.{eqb, ltb}
+use lib.Dec.{ltb}
 use lib.Pow.{pow-add, pow_pos}
 use borrow.Author.Tests.{lt-ltb, le-ltb}
 use lib.Ieee.{Format, round, sum}
@@ -85,24 +85,11 @@ sum_frac f false false a b c a' b' c' C C' p q =
 sum_frac f true false a b c a' b' c' C C' p q = unlike f true false a b c a' b' c' C C' p q refl
 sum_frac f false true a b c a' b' c' C C' p q = unlike f false true a b c a' b' c' C C' p q refl
 
--- signs as numbers
-pub signs_differ : (s t : ℕ) → s < 2 → t < 2 → (s ≡ t → ⊥) → beq (eqb s 1) (eqb t 1) ≡ false
-signs_differ zero zero a b n = absurd (n refl)
-signs_differ zero (suc zero) a b n = refl
-signs_differ (suc zero) zero a b n = refl
-signs_differ (suc zero) (suc zero) a b n = absurd (n refl)
-signs_differ (suc (suc s)) t a b n = absurd (go s a)
-  where
-    go : (s : ℕ) → suc (suc s) < 2 → ⊥
-    go s x = omega arith
-signs_differ zero (suc (suc t)) a b n = absurd (go t b)
-  where
-    go : (s : ℕ) → suc (suc s) < 2 → ⊥
-    go s x = omega arith
-signs_differ (suc zero) (suc (suc t)) a b n = absurd (go t b)
-  where
-    go : (s : ℕ) → suc (suc s) < 2 → ⊥
-    go s x = omega arith
+pub like_signs : (s t : Bool) → beq s t ≡ true → s ≡ t
+like_signs true true e = refl
+like_signs true false e = sym e
+like_signs false true e = e
+like_signs false false e = refl
 
 -- ---- P + Z stands for the sum: Z exactly, or P is even and the sum has 63 digits
 abbrev pub Fine : ℕ → ℕ → ℕ → ℕ → ℕ → Type 0

@@ -1,5 +1,5 @@
 -- What the inner functions of `mul_add` ensure (for 01-scope.md, "Fused multiply-add and parity"), and numbers rounded to odd. Definitions only.
-use Rattle.std.specs.Prelude.{◌≡◌, Bool, cond, true, false, not, ℕ, suc, ◌+◌, ◌-◌, ◌*◌, ◌/◌, ◌%◌, ◌^◌, ◌≤◌, ◌<◌, ◌⊎◌, T, eqb, Float}
+use Rattle.std.specs.Prelude.{◌≡◌, Bool, cond, true, false, not, ℕ, suc, ◌+◌, ◌-◌, ◌*◌, ◌/◌, ◌%◌, ◌^◌, ◌≤◌, ◌<◌, ◌⊎◌, T, Float}
 use Rattle.ieee.specs.Patterns.{lead, expo}
 use Rattle.std.specs.Float.{nan, inf, binary64}
 use Rattle.std.specs.Float.Ieee.{round, sum, is_nan, to_bits, of_bits}
@@ -38,12 +38,12 @@ abbrev pub Strong : ℕ → ℕ → ℕ → Type 0
 Strong S i W = Near S i W × ((W * 2 ^ i ≡ S) ⊎ (2 ^ 62 ≤ W))
 
 -- r is each S / 2 ^ 2317 rounded for which W * 2 ^ (j + 64) stands
-pub record Placed (sign W j : ℕ) (r : Float) : Type 0 where
-  pub value : (S : ℕ) → Strong S (j + 64) W → r ≡ round binary64 (eqb sign 1) S (2 ^ 2317)
+pub record Placed (sign : Bool) (W j : ℕ) (r : Float) : Type 0 where
+  pub value : (S : ℕ) → Strong S (j + 64) W → r ≡ round binary64 sign S (2 ^ 2317)
 
--- r is ±P * 2 ^ k / 2 ^ 2253 + ±q * 2 ^ d / 2 ^ 2253, rounded once. A sign of 1 is that of a negative value
-pub record Summed (s P k t q d : ℕ) (r : Float) : Type 0 where
-  pub is : r ≡ sum binary64 (eqb s 1) (P * 2 ^ k) (eqb t 1) (q * 2 ^ d) (2 ^ 2253)
+-- r is ±P * 2 ^ k / 2 ^ 2253 + ±q * 2 ^ d / 2 ^ 2253, rounded once. A sign is true of a negative value
+pub record Summed (s : Bool) (P k : ℕ) (t : Bool) (q d : ℕ) (r : Float) : Type 0 where
+  pub is : r ≡ sum binary64 s (P * 2 ^ k) t (q * 2 ^ d) (2 ^ 2253)
 
 -- a is even, of 54 digits, and b has 53. Each may also be 0
 pub record Factors (a b : ℕ) : Type 0 where
@@ -54,8 +54,8 @@ pub record Factors (a b : ℕ) : Type 0 where
   pub b_hi : b < 2 ^ 53
 
 -- r is ±P * 2 ^ k / 2 ^ 2253 + ±S / 2 ^ 2317, rounded once, for each S for which Z * 2 ^ (k + 64) stands: exactly, or P is even, and far above Z
-pub record Settled (s P k t Z : ℕ) (r : Float) : Type 0 where
-  pub is : (S : ℕ) → Near S (k + 64) Z → (Z * 2 ^ (k + 64) ≡ S) ⊎ ((P % 2 ≡ 0) × (2 ^ 62 + Z ≤ P)) → r ≡ sum binary64 (eqb s 1) (P * 2 ^ (k + 64)) (eqb t 1) S (2 ^ 2317)
+pub record Settled (s : Bool) (P k : ℕ) (t : Bool) (Z : ℕ) (r : Float) : Type 0 where
+  pub is : (S : ℕ) → Near S (k + 64) Z → (Z * 2 ^ (k + 64) ≡ S) ⊎ ((P % 2 ≡ 0) × (2 ^ 62 + Z ≤ P)) → r ≡ sum binary64 s (P * 2 ^ (k + 64)) t S (2 ^ 2317)
 
 -- b is the pattern of a finite value
 pub record Finite (b : ℕ) : Type 0 where

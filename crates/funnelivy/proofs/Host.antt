@@ -2,7 +2,7 @@
 -- the theorems on such lists hold of it.
 -- Assumes nothing.
 use mathlib.Core.Path.{◌≡◌, refl, sym, ◌∙◌, ap, subst}
-use mathlib.Core.Bool.{Bool, true, false, cond}
+use mathlib.Core.Bool.{false}
 use mathlib.Core.List.{List, ◌∷◌, Memᴰ}
 use Prim.Native.Nat.{ℕ}
 use native.Mathlib.Omega.{arith}
@@ -10,23 +10,23 @@ use lib.Dec.{eqb}
 use lib.ListN.{length, get_or}
 use lib.Ieee.{Float}
 use borrow.Author.Tests.{eq-eqb, ne_eqb}
-use Rattle.hough.specs.declared.SlantDeg.TheVariants.{None, Degrees}
+use Rattle.std.specs.Prelude.{None, Some, Result, Ok, Err}
+use Rattle.limits.specs.declared.Refusal.{Refusal}
+use Rattle.limits.specs.declared.Refusal.TheVariants as why
+use Rattle.limits.specs.Refusals.{number_of}
+use Rattle.limits.proofs.Causes.{number_positive}
 use Rattle.plain.specs.declared.End.{End}
 use Rattle.plain.specs.declared.End.TheVariants as end
 use Rattle.plain.specs.declared.Phase.{Phase}
 use Rattle.plain.specs.declared.Phase.TheVariants.{Searching, Collecting, Reported, Unfound, CutShort}
 use Rattle.plain.specs.Plain.{Plain, ended_phase, opened}
 use Rattle.plain.specs.Point.{Point, point_of, point_less, end_stage, FromAnchor}
-use Rattle.plain.specs.Calls.{Call, read, Answer, gave, refused, answer, answers, read_code, run_to}
+use Rattle.plain.specs.Calls.{Call, read, Answer, gave, refused, answer, answer_by, answers, read_refusal, run_to}
 use Rattle.session.specs.declared.Session.{Session}
-use Rattle.session.specs.declared.Opened.{Opened}
-use Rattle.session.specs.declared.Opened.TheVariants as op
+use Rattle.plain.specs.declared.Reading.{Reading}
 use Rattle.session.specs.declared.Fed.{Fed}
-use Rattle.session.specs.declared.Fed.TheVariants as fed
-use Rattle.session.specs.declared.Given.{Given}
-use Rattle.session.specs.declared.Given.TheVariants as given
 use Rattle.session.specs.Hold as hold
-use Rattle.session.specs.Hold.{OpenMeets, FeedMeets, FeedNumber, answer_of, given_by, given_of, feed_call, setup, session_point}
+use Rattle.session.specs.Hold.{OpenMeets, FeedMeets, answer_of, given_by, given_of, feed_call, setup, session_point}
 use Rattle.session.specs.Trace as list
 use Rattle.session.specs.Trace.{Trace}
 use Rattle.plain.specs.Lists.{flags_taken, list_reads}
@@ -44,67 +44,96 @@ use Rattle.c_record.specs.Record.{session_of}
 use Rattle.c_record.specs.Session.{opened_wire, fed_wire, end_wire, reading_wire}
 use Rattle.c_record.proofs.RoundTrip.{round_trip}
 use Rattle.c_card.specs.declared.FunnelivyCardAnswer.{FunnelivyCardAnswer}
-use Rattle.c_card.specs.Cards.{refused_by, written_wire, read_wire, session_card_wire}
-use Rattle.funnelivy.specs.Session.{OpenedMeets, ReadingMeets}
+use Rattle.c_card.specs.Cards.{refused_by, written_wire, read_wire}
+use Rattle.funnelivy.specs.Session.{OpenedMeets, FedMeets, ReadingMeets}
 use Rattle.funnelivy.specs.Cards.{session_card_answer}
-use Rattle.funnelivy.specs.Host.{HostTrace, done, feeds, reads, lends, changes, fed_answer, next_of, reading_point, read_answer, Followed, HostCard}
+use Rattle.funnelivy.specs.Host.{HostTrace, done, feeds, reads, lends, changes, refusal_by, fed_answer, next_of, reading_point, read_answer, Followed, HostCard}
 
 -- ---- what the numbers say is what the inner answer says
 
-record FedSame (w : FunnelivySession) (r : FunnelivyFed) (x : Fed) : Type 0 where
+-- a refusal's number is not 0
+some_number : (e : Refusal) → eqb (number_of e) 0 ≡ false
+some_number e = ne_eqb (number_of e) 0 (let l = number_positive e in omega arith)
+
+-- and names it
+pub refusal_named : (e : Refusal) → refusal_by (number_of e) ≡ e
+refusal_named = elim [
+  | why.Mode ↦ refl
+  | why.Rate ↦ refl
+  | why.Shift ↦ refl
+  | why.Anchor ↦ refl
+  | why.Memory ↦ refl
+  | why.Length ↦ refl
+  | why.Flag ↦ refl
+  | why.Sample ↦ refl
+  | why.Count ↦ refl
+  | why.Ended ↦ refl
+  | why.NotEnded ↦ refl
+  | why.CardLength ↦ refl
+  | why.CardMark ↦ refl
+  | why.CardField ↦ refl
+]
+
+record FedSame (w : FunnelivySession) (r : FunnelivyFed) (x : Result Fed Refusal) : Type 0 where
   answer : fed_answer r ≡ answer_of x
   next : session_of (next_of w r) ≡ hold.next_of (session_of w) x
 
-fed_same : (w : FunnelivySession) (x : Fed) (code : ℕ) → FeedNumber x code → FedSame w (fed_wire x) x
-fed_same w (fed.Took n s) code e = record { answer = refl; next = round_trip s }
-fed_same w (fed.Refused k) code e =
-    let some : eqb k 0 ≡ false = ne_eqb k 0 (let l = e.1 in omega arith) in
-    record { answer = simp some; next = simp some }
+fed_same : (w : FunnelivySession) (x : Result Fed Refusal) → FedSame w (fed_wire x) x
+fed_same w (Ok f) = record { answer = refl; next = round_trip f.session }
+fed_same w (Err e) = record { answer = rw (some_number e) (ap refused (refusal_named e)); next = rw (some_number e) }
 
 gave_same : (e : End) (t n : ℕ) → read_answer (end_wire e t n) ≡ gave (record { stage = end_stage e; taken = t; evaluations = n })
 gave_same (end.Reported x w q rate None skip y) t n = refl
-gave_same (end.Reported x w q rate (Degrees d) skip y) t n = refl
+gave_same (end.Reported x w q rate (Some d) skip y) t n = refl
 gave_same end.Unfound t n = refl
 gave_same (end.CutShort x w q) t n = refl
 
--- read refuses with no number 0
-abbrev Numbered : Given → Type 0
-Numbered (given.Gave g) = Unit
-Numbered (given.Refused k) = eqb k 0 ≡ false
-
-numbered : (h : Phase) (s : Session) → Numbered (given_by h s)
-numbered Searching s = refl
-numbered (Collecting x) s = refl
-numbered (Reported x r) s = tt
-numbered Unfound s = tt
-numbered (CutShort x) s = tt
-
-given_same : (g : Given) → Numbered g → read_answer (reading_wire g) ≡ given_of g
-given_same (given.Gave g) h = gave_same g.end g.taken g.evaluations
-given_same (given.Refused k) h = simp h
+given_same : (g : Result Reading Refusal) → read_answer (reading_wire g) ≡ given_of g
+given_same (Ok g) = gave_same g.end g.taken g.evaluations
+given_same (Err e) = rw (some_number e) (ap refused (refusal_named e))
 
 reading_same : (w : FunnelivySession) (r : FunnelivyReading) (m : ReadingMeets w r) → read_answer r ≡ given_of m.given
-reading_same w r m =
-    let s : Session = session_of w in
-    ap read_answer m.is ∙ given_same m.given (subst Numbered (sym m.meets.says) (numbered s.phase s))
+reading_same w r m = ap read_answer m.is ∙ given_same m.given
+
+-- The refusal that a host reads off a refused feed or read has the number that the record says.
+pub fed_number : (w : FunnelivySession) (st : List ℕ) (sm : List Float) (im vo fl : List ℕ) (ys : List Float) (r : FunnelivyFed) (st' : List ℕ) (sm' : List Float) (im' vo' : List ℕ)
+    → FedMeets w st sm im vo fl ys r st' sm' im' vo' → (r.refusal ≡ 0 → ⊥) → number_of (refusal_by r.refusal) ≡ r.refusal
+fed_number w st sm im vo fl ys r st' sm' im' vo' m some = go m.fed (ap (λ (x : FunnelivyFed). x.refusal) m.is)
+  where
+    go : (x : Result Fed Refusal) → r.refusal ≡ (fed_wire x).refusal → number_of (refusal_by r.refusal) ≡ r.refusal
+    go (Ok f) e = absurd (some e)
+    go (Err d) e = rw e (ap number_of (refusal_named d))
+
+pub read_number : (w : FunnelivySession) (r : FunnelivyReading) → ReadingMeets w r → (r.refusal ≡ 0 → ⊥) → number_of (refusal_by r.refusal) ≡ r.refusal
+read_number w r m some = go m.given (ap (λ (x : FunnelivyReading). x.refusal) m.is)
+  where
+    ended_number : (e : End) (t n : ℕ) → (end_wire e t n).refusal ≡ 0
+    ended_number (end.Reported x w q rate slant skip y) t n = refl
+    ended_number end.Unfound t n = refl
+    ended_number (end.CutShort x w q) t n = refl
+
+    go : (g : Result Reading Refusal) → r.refusal ≡ (reading_wire g).refusal → number_of (refusal_by r.refusal) ≡ r.refusal
+    go (Ok g) e = absurd (some (e ∙ ended_number g.end g.taken g.evaluations))
+    go (Err d) e = rw e (ap number_of (refusal_named d))
 
 -- ---- a host's list is a list on the session that its record says
 
 -- a refused feed over other stores
-lent_list : (w : FunnelivySession) (st : List ℕ) (sm : List Float) (os : List ℕ) (oy : List Float) (im vo fl : List ℕ) (ys : List Float) (x : Fed)
+lent_list : (w : FunnelivySession) (st : List ℕ) (sm : List Float) (os : List ℕ) (oy : List Float) (im vo fl : List ℕ) (ys : List Float) (x : Result Fed Refusal)
     (os₁ : List ℕ) (oy₁ : List Float) (im₁ vo₁ : List ℕ) (cs : List Call) (as' : List Answer) (z : Session) (st' : List ℕ) (sm' : List Float)
     → FeedMeets (session_of w) os oy im vo fl ys x os₁ oy₁ im₁ vo₁ → ((fed_wire x).refusal ≡ 0 → ⊥) → Trace (session_of w) st sm cs as' z st' sm'
-    → Trace (session_of w) st sm (feed_call os oy im vo fl ys ∷ cs) (refused (fed_wire x).refusal ∷ as') z st' sm'
-lent_list w st sm os oy im vo fl ys (fed.Took n s) os₁ oy₁ im₁ vo₁ cs as' z st' sm' m some t = absurd (some refl)
-lent_list w st sm os oy im vo fl ys (fed.Refused k) os₁ oy₁ im₁ vo₁ cs as' z st' sm' m some t =
-    list.lent (session_of w) st sm os oy im vo fl ys k os₁ oy₁ im₁ vo₁ cs as' z st' sm' m t
+    → Trace (session_of w) st sm (feed_call os oy im vo fl ys ∷ cs) (refused (refusal_by (fed_wire x).refusal) ∷ as') z st' sm'
+lent_list w st sm os oy im vo fl ys (Ok f) os₁ oy₁ im₁ vo₁ cs as' z st' sm' m some t = absurd (some refl)
+lent_list w st sm os oy im vo fl ys (Err e) os₁ oy₁ im₁ vo₁ cs as' z st' sm' m some t =
+    subst (λ (d : Refusal). Trace (session_of w) st sm (feed_call os oy im vo fl ys ∷ cs) (refused d ∷ as') z st' sm') (sym (refusal_named e))
+    (list.lent (session_of w) st sm os oy im vo fl ys e os₁ oy₁ im₁ vo₁ cs as' z st' sm' m t)
 
 traced : {w : FunnelivySession} {st : List ℕ} {sm : List Float} {cs : List Call} {as' : List Answer} {z : FunnelivySession} {st' : List ℕ} {sm' : List Float}
     → HostTrace w st sm cs as' z st' sm' → Trace (session_of w) st sm cs as' (session_of z) st' sm'
 traced (done w st sm) = list.done (session_of w) st sm
 traced (feeds w st sm im vo fl ys r st₁ sm₁ im₁ vo₁ cs as' z st' sm' m t) =
     let call : Call = feed_call st sm im vo fl ys in
-    let same : FedSame w r m.fed = subst (λ (x : FunnelivyFed). FedSame w x m.fed) (sym m.is) (fed_same w m.fed _ m.meets.number) in
+    let same : FedSame w r m.fed = subst (λ (x : FunnelivyFed). FedSame w x m.fed) (sym m.is) (fed_same w m.fed) in
     subst (λ (a : Answer). Trace (session_of w) st sm (call ∷ cs) (a ∷ as') (session_of z) st' sm') (sym same.answer)
     (list.fed (session_of w) st sm im vo fl ys m.fed st₁ sm₁ im₁ vo₁ cs as' (session_of z) st' sm' m.meets
     (subst (λ (s : Session). Trace s st₁ sm₁ cs as' (session_of z) st' sm') same.next (traced t)))
@@ -113,23 +142,23 @@ traced (reads w st sm r cs as' z st' sm' m t) =
     (list.gave (session_of w) st sm m.given cs as' (session_of z) st' sm' m.meets (traced t))
 traced (lends w st sm os oy im vo fl ys r os₁ oy₁ im₁ vo₁ cs as' z st' sm' m some t) =
     let number : r.refusal ≡ (fed_wire m.fed).refusal = ap (λ (x : FunnelivyFed). x.refusal) m.is in
-    subst (λ (k : ℕ). Trace (session_of w) st sm (feed_call os oy im vo fl ys ∷ cs) (refused k ∷ as') (session_of z) st' sm') (sym number)
+    subst (λ (k : ℕ). Trace (session_of w) st sm (feed_call os oy im vo fl ys ∷ cs) (refused (refusal_by k) ∷ as') (session_of z) st' sm') (sym number)
     (lent_list w st sm os oy im vo fl ys m.fed os₁ oy₁ im₁ vo₁ cs as' (session_of z) st' sm' m.meets (λ e. some (number ∙ e)) (traced t))
 traced (changes w st sm other cs as' z st' sm' e t) = list.another (session_of w) st sm other cs as' (session_of z) st' sm' e (traced t)
 
 -- ---- from an open that was not refused
 
 module _ (mode anchor : ℕ) (st : List ℕ) (sm first sm₀ : List Float) where
-  from_open : (x : Opened) → OpenMeets mode anchor st sm first x sm₀ → (opened_wire x).refusal ≡ 0
+  from_open : (x : Result Session Refusal) → OpenMeets mode anchor st sm first x sm₀ → (opened_wire x).refusal ≡ 0
       → {cs : List Call} {as' : List Answer} {z : FunnelivySession} {st' : List ℕ} {sm' : List Float}
       → HostTrace (opened_wire x).session st sm₀ cs as' z st' sm' → Followed mode anchor st sm first sm₀ cs as' z st' sm'
-  from_open (op.Ready s) m e {cs} {as'} {z} {st'} {sm'} t =
+  from_open (Ok s) m e {cs} {as'} {z} {st'} {sm'} t =
       record {
         session = s;
         opened = m;
         trace = subst (λ (x : Session). Trace x st sm₀ cs as' (session_of z) st' sm') (round_trip s) (traced t);
       }
-  from_open (op.Refused k) m e t = absurd (let h = m.says.1 in omega arith)
+  from_open (Err d) m e t = absurd (let l = number_positive d in omega arith)
 
   -- The list that a host made is one on a session that open gave, so that what holds of every such list holds of it.
   pub followed : (o : FunnelivyOpened) → OpenedMeets mode anchor st sm first o sm₀ → o.refusal ≡ 0
@@ -182,13 +211,13 @@ ended w g m =
     let s : Session = session_of w in
     ended_by s.phase s ∙ sym (ap (λ (r : FunnelivyReading). eqb r.refusal 0) (m.is ∙ ap reading_wire m.meets.says))
 
-gave_point : (a b : Point) (c : Bool) (k : ℕ) → gave a ≡ cond c (gave b) (refused k) → a ≡ b
-gave_point a b true k e = cc
-gave_point a b false k e = absurd (let z : ◌≡◌ {A = ℕ} 0 1 = cc in omega arith)
+gave_point : (a b : Point) (r : Result Unit Refusal) → gave a ≡ answer_by r (gave b) → a ≡ b
+gave_point a b (Ok u) e = cc
+gave_point a b (Err d) e = absurd (cc)
 
 -- Any record that read refuses has no card: 11.
 pub host_no_card : (w : FunnelivySession) (g : FunnelivyReading) → ReadingMeets w g → (g.refusal ≡ 0 → ⊥) → session_card_answer w ≡ refused_by 11
-host_no_card w g m some = ap session_card_wire (no_card_lem (session_of w) (ended w g m ∙ ne_eqb g.refusal 0 some))
+host_no_card w g m some = ap read_wire (no_card_lem (session_of w) (ended w g m ∙ ne_eqb g.refusal 0 some))
 
 module _ (mode anchor : ℕ) (st : List ℕ) (sm first sm₀ : List Float) where
   -- what read gives after a list is the point after it
@@ -199,7 +228,7 @@ module _ (mode anchor : ℕ) (st : List ℕ) (sm first sm₀ : List Float) where
       let p : Plain = opened (setup mode anchor (length st)) first in
       let q : Plain = run_to p cs in
       let said : read_answer g ≡ answer q read = reading_same z g m ∙ m.meets.plain q st' sm' (follows f.trace p f.opened.says.2).1 in
-      gave_point (reading_point g) (point_of q) (eqb (read_code q.phase) 0) (read_code q.phase) (rw (eq-eqb g.refusal 0 none) at said)
+      gave_point (reading_point g) (point_of q) (read_refusal q.phase) (rw (eq-eqb g.refusal 0 none) at said)
       ∙ sym (as_plain mode anchor st sm first sm₀ f.session f.opened f.trace).1
 
   -- Once read is not refused, the session has a card. It is written, reads back as the same answer, and says what read gives,
@@ -212,7 +241,7 @@ module _ (mode anchor : ℕ) (st : List ℕ) (sm first sm₀ : List Float) where
       let f = followed mode anchor st sm first sm₀ o m e t in
       let b : CardBack mode (session_of z) =
       session_card_lem mode anchor st sm first sm₀ f.session f.opened f.trace (ended z g n ∙ eq-eqb g.refusal 0 none) in
-      subst (HostCard mode g) (sym (is ∙ ap session_card_wire b.given))
+      subst (HostCard mode g) (sym (is ∙ ap read_wire b.given))
       (record {
         refusal = refl;
         written = λ out size. ap written_wire (b.written out size).0;

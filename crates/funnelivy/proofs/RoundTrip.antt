@@ -2,19 +2,16 @@
 -- that is written reads back as the same record.
 -- Assumes nothing.
 use mathlib.Core.Path.{◌≡◌, refl, ◌∙◌, ap}
-use mathlib.Core.Bool.{Bool, true, false, cond}
 use mathlib.Core.List.{List}
 use Prim.Native.Nat.{ℕ}
-use lib.Dec.{eqb}
+use native.Mathlib.Omega.{arith}
 use lib.ListN.{length}
-use borrow.Author.Tests.{eqb-false}
+use Rattle.std.specs.Prelude.{Result, Ok, Err}
+use Rattle.limits.specs.declared.Refusal.{Refusal}
+use Rattle.limits.proofs.Causes.{number_positive}
 use Rattle.words.proofs.RoundTrip.{Bytes}
 use Rattle.card.specs.declared.Card.{Card}
-use Rattle.card.specs.declared.Written.{Written}
-use Rattle.card.specs.declared.Written.TheVariants as written
-use Rattle.card.specs.declared.CardRead.{CardRead}
-use Rattle.card.specs.declared.CardRead.TheVariants as read
-use Rattle.card.specs.Card.{card_of, write_code, read_code, write_answer, read_answer}
+use Rattle.card.specs.Card.{write_answer, read_answer}
 use Rattle.card.proofs.RoundTrip as card
 use Rattle.card.proofs.RoundTrip.{Typed}
 use Rattle.c_card.specs.declared.FunnelivyCard.{FunnelivyCard}
@@ -23,27 +20,16 @@ use Rattle.funnelivy.specs.Cards.{write_card_answer, card_buffer, read_card_answ
 
 -- ---- the number 0 is that of no refusal
 
-read_holds : (bytes : List ℕ) → (read_card_answer bytes).refusal ≡ 0 → read_answer bytes ≡ read.Holds (card_of_wire (read_card_answer bytes).card)
-unfolding read_answer
-read_holds bytes none = go (eqb (read_code bytes) 0) refl none
+read_holds : (bytes : List ℕ) → (read_card_answer bytes).refusal ≡ 0 → read_answer bytes ≡ Ok (card_of_wire (read_card_answer bytes).card)
+read_holds bytes none = go (read_answer bytes) none
   where
-    answer : Bool → CardRead
-    answer b = cond b (read.Holds (card_of bytes)) (read.Refused (read_code bytes))
+    go : (r : Result Card Refusal) → (read_wire r).refusal ≡ 0 → r ≡ Ok (card_of_wire (read_wire r).card)
+    go (Ok c) z = refl
+    go (Err e) z = absurd (let l = number_positive e in omega arith)
 
-    go : (b : Bool) → eqb (read_code bytes) 0 ≡ b → (read_wire (answer b)).refusal ≡ 0 → answer b ≡ read.Holds (card_of_wire (read_wire (answer b)).card)
-    go true e z = refl
-    go false e z = absurd (eqb-false (read_code bytes) 0 e z)
-
-write_done : (c : Card) (size : ℕ) → written_wire (write_answer c size) ≡ 0 → write_answer c size ≡ written.Done
-unfolding write_answer
-write_done c size none = go (eqb (write_code c size) 0) refl none
-  where
-    answer : Bool → Written
-    answer b = cond b written.Done (written.Refused (write_code c size))
-
-    go : (b : Bool) → eqb (write_code c size) 0 ≡ b → written_wire (answer b) ≡ 0 → answer b ≡ written.Done
-    go true e z = refl
-    go false e z = absurd (eqb-false (write_code c size) 0 e z)
+write_done : (r : Result Unit Refusal) → written_wire r ≡ 0 → r ≡ Ok tt
+write_done (Ok tt) z = refl
+write_done (Err e) z = absurd (let l = number_positive e in omega arith)
 
 -- ---- there and back
 
@@ -57,5 +43,5 @@ pub written_reads_back : (w : FunnelivyCard) (out : List ℕ) → Typed (card_of
     → read_card_answer (card_buffer w out) ≡ record { refusal = 0; card = w }
 written_reads_back w out t none =
     let c : Card = card_of_wire w in
-    let only = card.written_only c (length out) (write_done c (length out) none) in
+    let only = card.written_only c (length out) (write_done (write_answer c (length out)) none) in
     ap read_card_answer (card.writes c out only.0 only.1).1 ∙ ap read_wire (card.written_reads_back c t only.1)

@@ -7,7 +7,7 @@ use Rattle.c_record.specs.declared.FunnelivySession.{FunnelivySession}
 use Rattle.c_record.specs.Record.{session_of}
 use Rattle.c_card.specs.declared.FunnelivyCard.{FunnelivyCard}
 use Rattle.c_card.specs.declared.FunnelivyCardAnswer.{FunnelivyCardAnswer}
-use Rattle.c_card.specs.Cards.{card_of_wire, written_wire, read_wire, session_card_wire}
+use Rattle.c_card.specs.Cards.{card_of_wire, written_wire, read_wire}
 
 -- the refusal's number, 0 where the card was written
 abbrev pub write_card_answer : FunnelivyCard → List ℕ → ℕ
@@ -21,4 +21,4 @@ abbrev pub read_card_answer : List ℕ → FunnelivyCardAnswer
 read_card_answer bytes = read_wire (read_answer bytes)
 
 abbrev pub session_card_answer : FunnelivySession → FunnelivyCardAnswer
-session_card_answer w = session_card_wire (session_card (session_of w))
+session_card_answer w = read_wire (session_card (session_of w))

@@ -1,10 +1,11 @@
 -- A host's list of calls on one session (01-scope.md, "Session"): each step is one that the exported call's `ensures` allows. Definitions only.
-use Rattle.std.specs.Prelude.{◌≡◌, ℕ, false, cond, List, [], ◌∷◌, eqb, length, Float}
+use Rattle.std.specs.Prelude.{◌≡◌, ℕ, false, cond, List, [], ◌∷◌, eqb, length, Float, Ok}
+use Rattle.limits.specs.declared.Refusal.{Refusal}
+use Rattle.limits.specs.declared.Refusal.TheVariants as why
 use Rattle.modespec.specs.Sizes.{robot}
 use Rattle.plain.specs.Point.{Point, Stage, reported, unfound, cut_short}
 use Rattle.plain.specs.Calls.{Call, read, Answer, took, gave, refused}
 use Rattle.session.specs.declared.Session.{Session}
-use Rattle.session.specs.declared.Opened.TheVariants.{Ready}
 use Rattle.session.specs.Hold.{OpenMeets, feed_call}
 use Rattle.session.specs.Trace.{Trace}
 use Rattle.ledger.specs.Entry.{Ledger, card_ledger, point_ledger}
@@ -20,8 +21,24 @@ use Rattle.funnelivy.specs.Cards.{write_card_answer, card_buffer, read_card_answ
 
 -- ---- what a host reads off the numbers
 
+-- why a call was refused, by its number. Every refused call's number is one of these 14.
+abbrev pub refusal_by : ℕ → Refusal
+refusal_by k =
+    cond (eqb k 1) why.Mode
+    (cond (eqb k 2) why.Rate
+    (cond (eqb k 3) why.Shift
+    (cond (eqb k 4) why.Anchor
+    (cond (eqb k 5) why.Memory
+    (cond (eqb k 6) why.Length
+    (cond (eqb k 7) why.Flag
+    (cond (eqb k 8) why.Sample
+    (cond (eqb k 9) why.Count
+    (cond (eqb k 10) why.Ended
+    (cond (eqb k 11) why.NotEnded
+    (cond (eqb k 12) why.CardLength (cond (eqb k 13) why.CardMark why.CardField))))))))))))
+
 abbrev pub fed_answer : FunnelivyFed → Answer
-fed_answer r = cond (eqb r.refusal 0) (took r.taken) (refused r.refusal)
+fed_answer r = cond (eqb r.refusal 0) (took r.taken) (refused (refusal_by r.refusal))
 
 -- the record to go on with: a refusal returns none
 abbrev pub next_of : FunnelivySession → FunnelivyFed → FunnelivySession
@@ -40,7 +57,7 @@ abbrev pub wire_ledger : FunnelivyCard → Ledger
 wire_ledger w = card_ledger (card_of_wire w)
 
 abbrev pub read_answer : FunnelivyReading → Answer
-read_answer r = cond (eqb r.refusal 0) (gave (reading_point r)) (refused r.refusal)
+read_answer r = cond (eqb r.refusal 0) (gave (reading_point r)) (refused (refusal_by r.refusal))
 
 -- ---- the list
 
@@ -66,7 +83,7 @@ pub data HostTrace : FunnelivySession → List ℕ → List Float → List Call 
       → FedMeets w other_flags other_samples img votes flags samples r other_flags' other_samples' img' votes'
       → (r.refusal ≡ 0 → ⊥)
       → HostTrace w flag_store sample_store cs as' z flag_end sample_end
-      → HostTrace w flag_store sample_store (feed_call other_flags other_samples img votes flags samples ∷ cs) (refused r.refusal ∷ as') z flag_end sample_end
+      → HostTrace w flag_store sample_store (feed_call other_flags other_samples img votes flags samples ∷ cs) (refused (refusal_by r.refusal) ∷ as') z flag_end sample_end
   -- without parity samples nothing is kept in the sample store, and the next call may be lent another one
   changes : (w : FunnelivySession) (flag_store : List ℕ) (sample_store other_samples : List Float)
       (cs : List Call) (as' : List Answer) (z : FunnelivySession) (flag_end : List ℕ) (sample_end : List Float)
@@ -79,7 +96,7 @@ pub record Followed
     (mode anchor : ℕ) (flag_store : List ℕ) (sample_store first sample_store' : List Float) (cs : List Call) (as' : List Answer)
     (z : FunnelivySession) (flag_end : List ℕ) (sample_end : List Float) : Type 0 where
   pub session : Session
-  pub opened : OpenMeets mode anchor flag_store sample_store first (Ready session) sample_store'
+  pub opened : OpenMeets mode anchor flag_store sample_store first (Ok session) sample_store'
   pub trace : Trace session flag_store sample_store' cs as' (session_of z) flag_end sample_end
 
 -- ---- the card

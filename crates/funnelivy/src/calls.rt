@@ -2,6 +2,7 @@
 ghost use Rattle.funnelivy.specs.Session.{OpenedMeets, FedMeets, ReadingMeets};
 
 use c_record::{FunnelivyFed, FunnelivyOpened, FunnelivyReading, FunnelivySession};
+use session::Session;
 
 #[unsafe(no_mangle)]
 pub extern "C" fn funnelivy_open(
@@ -13,7 +14,7 @@ pub extern "C" fn funnelivy_open(
 ) -> FunnelivyOpened
     ensures { OpenedMeets mode anchor flag_store.now sample_store.old first.now result sample_store.new }
 {
-    c_record::calls::opened_wire(session::open(mode, anchor, flag_store, sample_store, first))
+    session::open(mode, anchor, flag_store, sample_store, first).into()
 }
 
 #[unsafe(no_mangle)]
@@ -28,14 +29,14 @@ pub extern "C" fn funnelivy_feed(
 ) -> FunnelivyFed
     ensures { FedMeets session flag_store.old sample_store.old img.old votes.old flags.now samples.now result flag_store.new sample_store.new img.new votes.new }
 {
-    let s = c_record::record::session_of(session);
-    c_record::calls::fed_wire(s.feed(flag_store, sample_store, img, votes, flags, samples))
+    let s = Session::from(session);
+    s.feed(flag_store, sample_store, img, votes, flags, samples)
+        .into()
 }
 
 #[unsafe(no_mangle)]
 pub extern "C" fn funnelivy_read(session: FunnelivySession) -> FunnelivyReading
     ensures { ReadingMeets session result }
 {
-    let s = c_record::record::session_of(session);
-    c_record::calls::reading_wire(s.read())
+    Session::from(session).read().into()
 }

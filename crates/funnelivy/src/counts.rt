@@ -3,7 +3,7 @@ ghost use Rattle.std.specs.Prelude.{◌≡◌};
 ghost use Rattle.pulse.specs.PulseWindow.{window_answer};
 ghost use Rattle.pulse.specs.Quality.{quality_answer};
 ghost use Rattle.pulse.specs.Edge.{edge_answer};
-ghost use Rattle.c_answer.specs.Counts.{window_wire, quality_wire, edge_wire};
+ghost use Rattle.c_answer.specs.Counts.{columns_wire, window_wire, quality_wire};
 
 use c_answer::{FunnelivyColumnsAnswer, FunnelivyQualityAnswer, FunnelivyWindowAnswer};
 
@@ -12,7 +12,7 @@ use c_answer::{FunnelivyColumnsAnswer, FunnelivyQualityAnswer, FunnelivyWindowAn
 pub extern "C" fn funnelivy_window(counts: &[u32], width: u64) -> FunnelivyWindowAnswer
     ensures { result ≡ window_wire (window_answer counts.now width) }
 {
-    c_answer::counts::window_wire(pulse::best_pulse_window(counts, width as usize))
+    pulse::best_pulse_window(counts, width as usize).into()
 }
 
 // `sync_quality`.
@@ -20,13 +20,13 @@ pub extern "C" fn funnelivy_window(counts: &[u32], width: u64) -> FunnelivyWindo
 pub extern "C" fn funnelivy_quality(counts: &[u32], mode: u8, lines: u64) -> FunnelivyQualityAnswer
     ensures { result ≡ quality_wire (quality_answer counts.now mode lines) }
 {
-    c_answer::counts::quality_wire(pulse::sync_quality(counts, mode, lines as usize))
+    pulse::sync_quality(counts, mode, lines as usize).into()
 }
 
 // `falling_edge_from_x_acc`.
 #[unsafe(no_mangle)]
 pub extern "C" fn funnelivy_edge(counts: &[u32]) -> FunnelivyColumnsAnswer
-    ensures { result ≡ edge_wire (edge_answer counts.now) }
+    ensures { result ≡ columns_wire (edge_answer counts.now) }
 {
-    c_answer::counts::edge_wire(pulse::falling_edge_from_x_acc(counts))
+    pulse::falling_edge_from_x_acc(counts).into()
 }

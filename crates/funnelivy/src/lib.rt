@@ -1,6 +1,6 @@
 // The exported C interface, as include/funnelivy.h declares it: a module for each group of calls.
-// Each call hands its arguments to the inner call of the same contract, and its answer to `c_answer`, `c_record` or `c_card`, which write
-// it as a record of numbers.
+// Each call hands its arguments to the inner call of the same contract, and `c_answer`, `c_record` or `c_card` turn its answer into a
+// record of numbers.
 #![tactic(auto)]
 
 mod calls;

@@ -14,5 +14,5 @@ pub extern "C" fn funnelivy_find_sync(
 ) -> FunnelivyReportAnswer
     ensures { ReportMeets flags.now rate mode result img.old img.new votes.old votes.new }
 {
-    c_answer::report::report_wire(sync::find_sync(flags, rate, mode, img, votes))
+    sync::find_sync(flags, rate, mode, img, votes).into()
 }

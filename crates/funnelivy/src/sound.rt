@@ -19,5 +19,5 @@ pub extern "C" fn funnelivy_sync_window(sound: &[f32], centre: u64, buffer: &mut
 pub extern "C" fn funnelivy_has_sync(spectrum: &[f32], shift_hz: f64) -> FunnelivyDecisionAnswer
     ensures { result ≡ decision_wire (probe_answer spectrum.now shift_hz) }
 {
-    c_answer::sound::decision_wire(probe::has_sync_at(spectrum, shift_hz))
+    probe::has_sync_at(spectrum, shift_hz).into()
 }

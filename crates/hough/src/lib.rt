@@ -11,27 +11,22 @@ ghost use Rattle.hough.specs.Pass.{pass_of};
 ghost use Rattle.hough.specs.Steps.{Counted, PassDone, answer_of};
 ghost use Rattle.hough.specs.Passes.{outside_deadband, slant_ok, adjusted, passes_of, PassesDone};
 
+use image::Drawing;
 use modespec::ModeSpec;
+use votes::Angles;
 
-// The answer of a pass.
+// A slant that a pass found: its angle in degrees, and the rate that corrects it.
 #[derive(Clone, Copy)]
-pub enum Slant {
-    None,
-    Found { angle: f64, rate: f64 },
+pub struct Slant {
+    pub angle: f64,
+    pub rate: f64,
 }
 
-// The angle of the last slant found, in degrees.
-#[derive(Clone, Copy)]
-pub enum SlantDeg {
-    None,
-    Degrees(f64),
-}
-
-// The rate after the passes, and the slant.
+// The rate after the passes, and the angle of the last slant found, in degrees.
 #[derive(Clone, Copy)]
 pub struct Passes {
     pub rate: f64,
-    pub slant_deg: SlantDeg,
+    pub slant_deg: Option<f64>,
 }
 
 // The cell with the highest count so far, and that count. (A count has 16 bits; a struct without padding is copied
@@ -42,30 +37,23 @@ pub struct Leader {
     pub cell: usize,
 }
 
-// The cell that a pixel votes for at an angle, if the vote is admissible.
-#[derive(Clone, Copy)]
-pub enum Vote {
-    NoCell,
-    Cell(usize),
-}
-
 // The answer of a pass whose votes have this leader.
-fn answer(leader: Leader, rate: f64, w: usize) -> Slant
+fn answer(leader: Leader, rate: f64, w: usize) -> Option<Slant>
     requires { w ≤ 65536 }
     ensures { result ≡ answer_of leader rate w }
 {
     if leader.count == 0 {
-        return Slant::None;
+        return None;
     }
     let q = leader.cell % 240;
     let tangents = angles::tangents();
-    Slant::Found {
+    Some(Slant {
         angle: 30.0 + (q as f64) * 0.5,
         rate: rate + (tangents[q] / (w as f64)) * rate,
-    }
+    })
 }
 
-// Draws the flags and counts the votes.
+// Draws the flags and counts the votes. img and votes stay two slices: as `&mut` fields of a struct they can't be lent in part.
 fn count_votes(
     flags: &[u8],
     rate: f64,
@@ -77,13 +65,17 @@ fn count_votes(
     requires { (w ≤ 65536) × ((441000 ≤ length img.old) × (144000 ≤ length votes.old)) }
     ensures { Counted (pass_of flags.now rate spec w) result img.old img.new votes.old votes.new }
 {
-    let sines = angles::sines();
-    let cosines = angles::cosines();
+    let rows = (spec.image_lines as usize).min(630);
+    votes[..limits::VOTE_CELLS].fill(0);
     let line = spec.line_seconds;
-    let rows = limits::min(spec.image_lines as usize, 630);
-    votes::clear(votes, limits::VOTE_CELLS);
-    image::draw(img, flags, rate, line, w, rows);
-    votes::vote_rows(votes, img, &sines, &cosines, w, rows)
+    Drawing {
+        flags,
+        rate,
+        line,
+        w,
+    }
+    .draw(img, rows);
+    Angles::new(w).vote_rows(votes, img, rows)
 }
 
 // One pass at a line width of w columns. The first 441,000 places of img and the first 144,000 of votes may hold
@@ -95,13 +87,13 @@ pub fn hough_detect_slant(
     w: usize,
     img: &mut [u8],
     votes: &mut [u16],
-) -> Slant
+) -> Option<Slant>
     requires { (w ≤ 65536) × ((441000 ≤ length img.old) × (144000 ≤ length votes.old)) }
     ensures { PassDone (pass_of flags.now rate spec w) result img.old img.new votes.old votes.new }
 {
     let leader = count_votes(flags, rate, spec, w, img, votes);
-    image::clear(img, limits::IMG_BYTES);
-    votes::clear(votes, limits::VOTE_CELLS);
+    img[..limits::IMG_BYTES].fill(0);
+    votes[..limits::VOTE_CELLS].fill(0);
     answer(leader, rate, w)
 }
 
@@ -121,19 +113,17 @@ fn slant_ok(angle: f64) -> bool
 }
 
 // The state after a pass that found a slant.
-fn adjust(state: Passes, angle: f64, rate: f64) -> Passes
-    ensures { result ≡ adjusted state angle rate }
+fn adjust(state: Passes, slant: Slant) -> Passes
+    ensures { result ≡ adjusted state slant.angle slant.rate }
 {
-    if outside_deadband(angle) {
+    let slant_deg = Some(slant.angle);
+    if outside_deadband(slant.angle) {
         Passes {
-            rate,
-            slant_deg: SlantDeg::Degrees(angle),
+            rate: slant.rate,
+            slant_deg,
         }
     } else {
-        Passes {
-            rate: state.rate,
-            slant_deg: SlantDeg::Degrees(angle),
-        }
+        Passes { slant_deg, ..state }
     }
 }
 
@@ -152,19 +142,16 @@ pub fn slant_passes(
     let w = modespec::line_width(spec);
     let mut state = Passes {
         rate,
-        slant_deg: SlantDeg::None,
+        slant_deg: None,
     };
-    let mut left: usize = 4;
-    while 0 < left {
-        let slant = hough_detect_slant(flags, state.rate, spec, w, img, votes);
-        let Slant::Found { angle, rate: next } = slant else {
+    for _ in 0..4usize {
+        let Some(slant) = hough_detect_slant(flags, state.rate, spec, w, img, votes) else {
             return state;
         };
-        state = adjust(state, angle, next);
-        if slant_ok(angle) {
+        state = adjust(state, slant);
+        if slant_ok(slant.angle) {
             return state;
         }
-        left -= 1;
     }
     state
 }

@@ -5,6 +5,7 @@ use lib.Ieee.{Float, nan, inf, fin, binary64, up, down, lt, fits, of_int, to_uns
 use lib.Ieee.Fits.{down_pos}
 use lib.Ieee.Exact.{HasValue}
 use lib.Ieee.Back.{round_whole}
+use Rattle.ieee.proofs.Order.{yes, no}
 use Rattle.ieee.specs.Casts.{ceil_unsigned}
 use Rattle.ieee.proofs.Unique.{digits_lt}
 
@@ -96,23 +97,23 @@ in_cap' t c h k = omega arith
 wide : 9007199254740992 < 2 ^ 64
 wide = lib.Dec.lit< tt
 
-pub ceil_up : (x : Float) (t : ℕ) → t ≡ to_unsigned 64 x → t < 2 ^ 53 → T (lt (of_int binary64 (pos t)) x) → t + 1 ≡ ceil_unsigned 64 x
+pub ceil_up : (x : Float) (t : ℕ) → t ≡ to_unsigned 64 x → t < 2 ^ 53 → lt (of_int binary64 (pos t)) x ≡ true → t + 1 ≡ ceil_unsigned 64 x
 unfolding to_unsigned ceil_unsigned
-ceil_up nan t p h k = absurd (not_above_nan (of_int binary64 (pos t)) t (whole t h) k)
-ceil_up (inf true) t p h k = absurd (not_above_inf (of_int binary64 (pos t)) t (whole t h) k)
+ceil_up nan t p h k = absurd (not_above_nan (of_int binary64 (pos t)) t (whole t h) (yes k))
+ceil_up (inf true) t p h k = absurd (not_above_inf (of_int binary64 (pos t)) t (whole t h) (yes k))
 ceil_up (inf false) t p h k = omega arith
-ceil_up (fin true m e) t p h k = absurd (not_above (of_int binary64 (pos t)) t m e (whole t h) k)
+ceil_up (fin true m e) t p h k = absurd (not_above (of_int binary64 (pos t)) t m e (whole t h) (yes k))
 ceil_up (fin false m e) t p h k =
-    sym (ap (λ (z : ℕ). min z (2 ^ 64 - 1)) (up_by_one (m * up e) (down e) t (down_pos e) (uncap (m * up e / down e) t (2 ^ 64) p h wide) (lt_whole (of_int binary64 (pos t)) t m e (whole t h) k)) ∙ in_cap' t (2 ^ 64) h wide)
+    sym (ap (λ (z : ℕ). min z (2 ^ 64 - 1)) (up_by_one (m * up e) (down e) t (down_pos e) (uncap (m * up e / down e) t (2 ^ 64) p h wide) (lt_whole (of_int binary64 (pos t)) t m e (whole t h) (yes k))) ∙ in_cap' t (2 ^ 64) h wide)
 
-pub ceil_as_is : (x : Float) (t : ℕ) → t ≡ to_unsigned 64 x → t < 2 ^ 53 → T (not (lt (of_int binary64 (pos t)) x)) → t ≡ ceil_unsigned 64 x
+pub ceil_as_is : (x : Float) (t : ℕ) → t ≡ to_unsigned 64 x → t < 2 ^ 53 → lt (of_int binary64 (pos t)) x ≡ false → t ≡ ceil_unsigned 64 x
 unfolding to_unsigned ceil_unsigned
 ceil_as_is nan t p h k = p
 ceil_as_is (inf true) t p h k = p
 ceil_as_is (inf false) t p h k = p
 ceil_as_is (fin true m e) t p h k = p
 ceil_as_is (fin false m e) t p h k =
-    sym (ap (λ (z : ℕ). min z (2 ^ 64 - 1)) (as_is (m * up e) (down e) t (down_pos e) (uncap (m * up e / down e) t (2 ^ 64) p h wide) (ge_whole (of_int binary64 (pos t)) t m e (whole t h) k)) ∙ in_cap t (2 ^ 64) h wide)
+    sym (ap (λ (z : ℕ). min z (2 ^ 64 - 1)) (as_is (m * up e) (down e) t (down_pos e) (uncap (m * up e / down e) t (2 ^ 64) p h wide) (ge_whole (of_int binary64 (pos t)) t m e (whole t h) (no k))) ∙ in_cap t (2 ^ 64) h wide)
 
 -- ---- from 2 ^ 53 on there is no fraction
 too_big : (m k : ℕ) → m < 2 ^ 53 → 2 ^ 53 ≤ m * 1 / 2 ^ suc k → ⊥
@@ -121,11 +122,11 @@ too_big m k h g = lt_irrefl (2 ^ 53) (lt_of_le_of_lt (le_trans g (le_trans (nati
 at_least : (a t c : ℕ) → t ≡ min a c → 9007199254740992 ≤ t → 9007199254740992 ≤ a
 at_least a t c p h = omega arith
 
-pub ceil_big : (x : Float) (t : ℕ) → T (fits binary64 x) → t ≡ to_unsigned 64 x → 2 ^ 53 ≤ t → t ≡ ceil_unsigned 64 x
+pub ceil_big : (x : Float) (t : ℕ) → fits binary64 x ≡ true → t ≡ to_unsigned 64 x → 2 ^ 53 ≤ t → t ≡ ceil_unsigned 64 x
 unfolding to_unsigned ceil_unsigned
 ceil_big nan t F p h = p
 ceil_big (inf true) t F p h = p
 ceil_big (inf false) t F p h = p
 ceil_big (fin true m e) t F p h = p
 ceil_big (fin false m (pos k)) t F p h = p ∙ ap (λ (z : ℕ). min (z / 1) (2 ^ 64 - 1)) (sym (native.Mathlib.Nat.add-zero (m * 2 ^ k)))
-ceil_big (fin false m (negsuc k)) t F p h = absurd (too_big m k (digits_lt binary64 false m (negsuc k) F) (at_least (m * 1 / 2 ^ suc k) t (2 ^ 64 - 1) p h))
+ceil_big (fin false m (negsuc k)) t F p h = absurd (too_big m k (digits_lt binary64 false m (negsuc k) (yes F)) (at_least (m * 1 / 2 ^ suc k) t (2 ^ 64 - 1) p h))

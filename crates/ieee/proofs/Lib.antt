@@ -12,6 +12,5 @@ pub mod Ceil
 pub mod Pack
 pub mod NoNan
 pub mod View
-pub mod Narrowing
-pub mod Rounding
+mod Same
 pub mod Shifting

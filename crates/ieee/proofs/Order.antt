@@ -1,12 +1,9 @@
 -- A float compared with a power of two or with zero, and what that says of its casts to whole numbers. Assumes nothing.
-use Rattle.std.proofs.Common.{◌≡◌, ℕ, zero, suc, ◌+◌, ◌-◌, ◌*◌, ◌/◌, ◌%◌, ◌^◌, ◌<◌, ◌≤◌, min, Bool, true, false, not, T, ℤ, pos, ◌-ℤ◌, neg_ℤ, sym, refl, ap, ◌∙◌, subst, zero-le, le_of_eq, lt_of_lt_of_le, lt_of_le_of_lt, mod-lt, mul-le-mul, lt_of_mul-lt-mul_right, mul-lt-mul_of_pos_right, one-mul, le-div_iff_mul-le, zero-mul, mul-one, mul_right_comm, arith, lit<, ltb→lt, lt→ltb, nltb→le, pow_pos, pow_mono, w64, SFits, to_z, of_z}
-use native.Mathlib.Nat.{zero-div}
-use lib.IntN.{+ℤ_idl}
+use Rattle.std.proofs.Common.{◌≡◌, ℕ, zero, suc, ◌+◌, ◌-◌, ◌*◌, ◌/◌, ◌%◌, ◌^◌, ◌<◌, ◌≤◌, min, Bool, true, false, not, T, pos, sym, refl, subst, zero-le, le_of_eq, lt_of_lt_of_le, lt_of_le_of_lt, mod-lt, mul-le-mul, lt_of_mul-lt-mul_right, mul-lt-mul_of_pos_right, one-mul, le-div_iff_mul-le, mul-one, mul_right_comm, arith, lit<, lt→ltb, nltb→le, pow_pos, pow_mono}
 use lib.Ieee.{Float, nan, inf, fin, binary64, up, down, of_bits, to_bits, fits, neg, lt, to_unsigned, to_signed}
 use lib.Ieee.Fits.{down_pos}
 use lib.Ieee.Exact.{HasValue}
 use lib.Ieee.Positive.{above}
-use mir.ValLaws.{to_z_pos, to_z-of_z}
 use Rattle.ieee.specs.Patterns.{lead, expo}
 use Rattle.ieee.proofs.View as View
 
@@ -97,49 +94,3 @@ unsigned_top (fin false m e) p h =
 
     capped : (k : ℕ) → 2 ^ 64 ≤ k → min k (2 ^ 64 - 1) ≡ 2 ^ 64 - 1
     capped k l = omega arith
-
--- ---- the signed cast, from the unsigned cast of the magnitude
-recap : (q c : ℕ) → c < 18446744073709551616 → min q c ≡ min (min q (18446744073709551616 - 1)) c
-recap q c h = omega arith
-
-pub signed_below : (x : Float) → T (lt x (of_bits binary64 0)) → to_signed 63 x ≡ neg_ℤ (pos (min (to_unsigned 64 (neg x)) (2 ^ 63)))
-unfolding lt of_bits neg to_unsigned to_signed
-signed_below nan h = absurd h
-signed_below (inf true) h = refl
-signed_below (inf false) h = absurd h
-signed_below (fin true m e) h = ap (λ (k : ℕ). neg_ℤ (pos k)) (recap (m * up e / down e) (2 ^ 63) (lit< tt))
-signed_below (fin false m e) h = absurd (none (m * up e * 1) (0 * 1 * down e) (ltb→lt (m * up e * 1) (0 * 1 * down e) h) (zero-mul (down e)))
-  where
-    none : (a b : ℕ) → a < b → b ≡ 0 → ⊥
-    none a b u v = omega arith
-
-pub signed_above : (x : Float) → T (not (lt x (of_bits binary64 0))) → to_signed 63 x ≡ pos (min (to_unsigned 64 x) (2 ^ 63 - 1))
-unfolding lt of_bits to_unsigned to_signed
-signed_above nan h = refl
-signed_above (inf true) h = absurd h
-signed_above (inf false) h = refl
-signed_above (fin true m e) h =
-    ap (λ (k : ℕ). neg_ℤ (pos (min (k / down e) (2 ^ 63)))) (none (m * up e) (0 * 1 * down e) (nltb→le 0 (m * up e * 1 + 0 * 1 * down e) h))
-    ∙ ap (λ (k : ℕ). neg_ℤ (pos (min k (2 ^ 63)))) (zero-div (down e))
-  where
-    none : (n z : ℕ) → n * 1 + z ≤ 0 → n ≡ 0
-    none n z k = omega arith
-signed_above (fin false m e) h = ap pos (recap (m * up e / down e) (2 ^ 63 - 1) (lit< tt))
-
--- ---- -t, as the machine works it out
-module _ (t : ℕ) (h : t < 2 ^ 63) where
-  minus : pos 0 -ℤ to_z w64 t ≡ neg_ℤ (pos t)
-  minus = ap (λ (z : ℤ). pos 0 -ℤ z) (to_z_pos w64 t h) ∙ +ℤ_idl (neg_ℤ (pos t))
-
-  small : (n : ℕ) → n < 2 ^ 63 → SFits w64 (neg_ℤ (pos n))
-  small zero k = record { sfits = k }
-  small (suc n) k = record { sfits = below n (2 ^ 63) k }
-    where
-      below : (a b : ℕ) → suc a < b → a < b
-      below a b l = omega arith
-
-  pub minus_fits : SFits w64 (pos 0 -ℤ to_z w64 t)
-  minus_fits = subst (λ (z : ℤ). SFits w64 z) (sym minus) (small t h)
-
-  pub minus_is : to_z w64 (of_z w64 (pos 0 -ℤ to_z w64 t)) ≡ neg_ℤ (pos t)
-  minus_is = to_z-of_z w64 (pos 0 -ℤ to_z w64 t) minus_fits ∙ minus

@@ -7,7 +7,6 @@ ghost use Rattle.std.specs.Float.{binary32, binary64};
 ghost use Rattle.std.specs.Float.Ieee.Nearest.{closest};
 ghost use Rattle.ieee.specs.Casts.{ceil_unsigned, round_away, narrow, maximum};
 ghost use Rattle.ieee.specs.Casts.{clamp as Casts·clamp};
-ghost use Rattle.ieee.specs.Patterns.{Narrowed, Rounded};
 
 // Rust's `x as u64`: toward zero, brought to the range, and 0 for a NaN. Below 2^53, where nearly every
 // value lies, it is a shift of the digits. Below 2^32 the front 32 digits are shifted to the left by the exponent:
@@ -34,29 +33,16 @@ pub fn to_u64(x: f64) -> u64
     }
 }
 
-// Rust's `x as i64`: the cut of the magnitude, with the sign put back.
+// Rust's `x as i64`.
 pub fn to_i64(x: f64) -> i64
     ensures { result ≡ Ieee.to_signed 63 x }
 {
-    if x < 0.0 {
-        let t: u64 = to_u64(-x);
-        if t < 9223372036854775808 {
-            -(t as i64)
-        } else {
-            -9223372036854775808
-        }
-    } else {
-        let t: u64 = to_u64(x);
-        if t < 9223372036854775808 {
-            t as i64
-        } else {
-            9223372036854775807
-        }
-    }
+    std::num::saturating_f64_to_i64(x)
 }
 
 // Rust's `x.ceil() as u64`. Below 2^53 the whole part is a float exactly, so one comparison says whether
 // something was dropped. From there on an `f64` has no fraction.
+#[tactic(auto, using(crate::proofs::Whole::in_float_lem, crate::proofs::Ceil::ceil_up, crate::proofs::Ceil::ceil_as_is, crate::proofs::Ceil::ceil_big))]
 pub fn ceil_to_u64(x: f64) -> u64
     ensures { result ≡ ceil_unsigned 64 x }
 {
@@ -78,69 +64,20 @@ pub fn nearest_shift(w: u64, sh: u64) -> u64
     (w + (half - 1) + ((w >> sh) & 1)) >> sh
 }
 
-// The bits, without the sign's, of the `f32` nearest to an `f64` with the exponent's field e and the digits t.
-// The value has 53 digits, of which a result that is not subnormal keeps 24. A subnormal one keeps fewer.
-fn narrow_magnitude(e: u64, t: u64) -> u64
-    requires { (e < 2048) × (t < 2 ^ 52) }
-    ensures { Narrowed e t result }
-{
-    if e > 1150 {
-        0x7f80_0000
-    } else if e > 896 {
-        ((e - 897) << 23) + nearest_shift(t + 0x10_0000_0000_0000, 29)
-    } else if e > 872 {
-        nearest_shift(t + 0x10_0000_0000_0000, 926 - e)
-    } else {
-        0
-    }
-}
-
 // Rust's `x as f32`: to the nearest `f32`, a tie to the even one.
+#[tactic(auto, using(crate::proofs::Same::same_narrow))]
 pub fn to_f32(x: f64) -> f32
     ensures { result ≡ narrow x }
 {
-    if x != x {
-        0.0 / 0.0
-    } else {
-        let b: u64 = f64::to_bits(x);
-        let n: u64 = narrow_magnitude((b >> 52) & 0x7ff, b & 0xf_ffff_ffff_ffff);
-        f32::from_bits((((b >> 63) << 31) + n) as u32)
-    }
-}
-
-// The bits, without the sign's, of the whole number nearest to an `f64` below 2^52 with the exponent's
-// field e and the digits t. A half goes up. Where the addition of a half carries, it carries into the
-// exponent's field.
-fn round_magnitude(e: u64, t: u64) -> u64
-    requires { (e < 1075) × (t < 2 ^ 52) }
-    ensures { Rounded e t result }
-{
-    if e > 1022 {
-        let sh: u64 = 1075 - e;
-        ((e - 1) << 52) + (((t + 0x10_0000_0000_0000 + (1 << (sh - 1))) >> sh) << sh)
-    } else if e == 1022 {
-        0x3ff0_0000_0000_0000
-    } else {
-        0
-    }
+    std::num::nearest_f64_to_f32_with_nan(x)
 }
 
 // Rust's `f64::round`: the nearest whole number, a half away from zero. The sign stays, a zero's too.
+#[tactic(auto, using(crate::proofs::Same::same_round))]
 pub fn round(x: f64) -> f64
     ensures { result ≡ round_away binary64 x }
 {
-    if x != x {
-        x
-    } else {
-        let b: u64 = f64::to_bits(x);
-        let e: u64 = (b >> 52) & 0x7ff;
-        if e > 1074 {
-            x
-        } else {
-            let n: u64 = round_magnitude(e, b & 0xf_ffff_ffff_ffff);
-            f64::from_bits(((b >> 63) << 63) + n)
-        }
-    }
+    x.round()
 }
 
 // Rust's `x.round() as i64`.
@@ -152,30 +89,21 @@ pub fn round_to_i64(x: f64) -> i64
 
 // Rust's `x.max(y)`: the larger, and where one is a NaN the other. Rust leaves open which of two equal
 // values it gives, so which zero: here it is the first.
+#[tactic(auto, unfolding(crate::specs::Casts::maximum))]
 pub fn max(x: f64, y: f64) -> f64
     ensures { result ≡ maximum x y }
 {
-    if x < y {
-        y
-    } else if x == x {
-        x
-    } else {
-        y
-    }
+    if x < y || x.is_nan() { y } else { x }
 }
 
 // Rust's `x.clamp(lo, hi)`: x held between lo and hi. A NaN stays. Rust panics where lo <= hi does not
 // hold: here lo is applied first, then hi.
+#[tactic(auto, unfolding(crate::specs::Casts::clamp))]
 pub fn clamp(x: f64, lo: f64, hi: f64) -> f64
     ensures { result ≡ Casts·clamp x lo hi }
 {
-    if x < lo {
-        if hi < lo { hi } else { lo }
-    } else if hi < x {
-        hi
-    } else {
-        x
-    }
+    let above = if x < lo { lo } else { x };
+    if hi < above { hi } else { above }
 }
 
 // Rust's `x as f64` of an `f32`, which changes no value. A NaN goes to a NaN.

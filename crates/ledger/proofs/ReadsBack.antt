@@ -13,7 +13,8 @@ use lib.Signed.{mag}
 use lib.Ieee.{Float, inf, fin, binary32, lt, le, fits}
 use lib.Ieee.Bits.{is_true}
 use borrow.Author.Tests.{le-leb}
-use Rattle.hough.specs.declared.SlantDeg.{SlantDeg}
+use Rattle.std.specs.Prelude.{Option, Ok, Err}
+use Rattle.limits.specs.declared.Refusal.TheVariants as why
 use Rattle.sync.specs.declared.SyncResult.{SyncResult}
 use Rattle.plain.specs.declared.End.TheVariants as end
 use Rattle.plain.specs.declared.Phase.{Phase}
@@ -24,7 +25,6 @@ use Rattle.plain.proofs.Lists.{run_setup}
 use Rattle.report_range.specs.Report.{Part, Rate, SoundReport, SoundPhase}
 use Rattle.report_range.proofs.Sound.{sound_phase}
 use Rattle.session.specs.declared.Session.{Session}
-use Rattle.session.specs.declared.Opened.TheVariants as op
 use Rattle.session.specs.Hold.{Sane, Holds, OpenMeets, setup, start_of, given_by, session_point}
 use Rattle.session.specs.Trace.{Trace}
 use Rattle.session.proofs.Demand3.{follows}
@@ -32,7 +32,6 @@ use Rattle.card.specs.declared.Card.{Card}
 use Rattle.card.specs.Card.{within, positive, near, wrong}
 use Rattle.card.proofs.Accepted as accepted
 use Rattle.card.proofs.RoundTrip.{Typed, writes, written_reads_back}
-use Rattle.ledger.specs.declared.SessionCard.TheVariants.{Of, Refused}
 use Rattle.ledger.specs.Ledger.{unreported_card, end_card, card_given, session_card}
 use Rattle.ledger.specs.Entry.{Entry, reported, cut_short, Ledger, card_ledger, point_ledger}
 use Rattle.ledger.specs.Back.{CardBack}
@@ -56,7 +55,7 @@ small_skip : (z : ℤ) → nat_abs z ≤ 2 ^ 29 → mag z < 2 ^ 63
 small_skip (pos n) h = omega arith
 small_skip (negsuc n) h = omega arith
 
-back_by : (z : Session) (c : Card) → Typed c → wrong c ≡ false → session_card z ≡ Of c → card_ledger c ≡ point_ledger (session_point z) → CardBack c.mode z
+back_by : (z : Session) (c : Card) → Typed c → wrong c ≡ false → session_card z ≡ Ok c → card_ledger c ≡ point_ledger (session_point z) → CardBack c.mode z
 back_by z c typed w given says =
     record { card = c; given = given; written = λ out n. writes c out n w; back = written_reads_back c typed w; mode = refl; says = says }
 
@@ -128,7 +127,7 @@ card_back m a k t e r (Reported x y) s p ended =
     (accepted.reported c s.mode refl (index_free y.slant_deg p.1.slant) (within_part x.quality p.0.quality) (within_part y.sync_quality p.1.quality)
     (positive_rate y.adjusted_rate_hz p.1.rate) (near_skip y.skip_samples p.1.skip))
     refl
-    (ap₂ (λ (n : ℕ) (d : SlantDeg). ledger_at (reported n x.quality y.adjusted_rate_hz d y.skip_samples y.sync_quality) t e)
+    (ap₂ (λ (n : ℕ) (d : Option Float). ledger_at (reported n x.quality y.adjusted_rate_hz d y.skip_samples y.sync_quality) t e)
     start.0 (slant_back y.slant_deg p.1.slant))
 card_back m a k t e r Unfound s p ended =
     let z : Session = in_phase m a k t e r Unfound in
@@ -149,7 +148,7 @@ card_back m a k t e r (CutShort x) s p ended =
 -- ---- of a session
 
 -- every session that has ended, after any list of calls, has a card that reads back as its report
-pub session_card_lem : (mode anchor : ℕ) (st : List ℕ) (sm first sm₀ : List Float) (s : Session) → OpenMeets mode anchor st sm first (op.Ready s) sm₀
+pub session_card_lem : (mode anchor : ℕ) (st : List ℕ) (sm first sm₀ : List Float) (s : Session) → OpenMeets mode anchor st sm first (Ok s) sm₀
     → {cs : List Call} {as' : List Answer} {z : Session} {st' : List ℕ} {sm' : List Float} → Trace s st sm₀ cs as' z st' sm'
     → ended_phase z.phase ≡ true → CardBack mode z
 session_card_lem mode anchor st sm first sm₀ s o {cs} {as'} {z} {st'} {sm'} t ended =
@@ -163,10 +162,10 @@ session_card_lem mode anchor st sm first sm₀ s o {cs} {as'} {z} {st'} {sm'} t 
     (subst SoundPhase (sym phase) (sound_phase u first cs)) ended)
 
 -- a session without an end has no card, whatever its record
-pub no_card_lem : (z : Session) → ended_phase z.phase ≡ false → session_card z ≡ Refused 11
+pub no_card_lem : (z : Session) → ended_phase z.phase ≡ false → session_card z ≡ Err why.NotEnded
 no_card_lem z live = go z.phase live
   where
-    go : (h : Phase) → ended_phase h ≡ false → card_given z.mode (given_by h z) ≡ Refused 11
+    go : (h : Phase) → ended_phase h ≡ false → card_given z.mode (given_by h z) ≡ Err why.NotEnded
     go Searching e = refl
     go (Collecting x) e = refl
     go (Reported x y) e = absurd (false≢true (sym e))

@@ -8,8 +8,7 @@ use lib.Ieee.{add, sub, mul, eq, of_int, to_unsigned}
 use lib.Ieee.Fits.{and_l, and_r}
 use borrow.Author.Tests.{eqb-true, eqb-false, ne_eqb, lt-leb}
 use Rattle.ieee.specs.Numbers.{decimal}
-use Rattle.hough.specs.declared.SlantDeg.{SlantDeg}
-use Rattle.hough.specs.declared.SlantDeg.TheVariants.{None, Degrees}
+use Rattle.std.specs.Prelude.{Float, Option, None, Some}
 use Rattle.hough.specs.Pass.{angle_of}
 use Rattle.report_range.specs.Report.{Listed, none, angle}
 use Rattle.card.specs.Card.{between}
@@ -18,7 +17,7 @@ use Rattle.ledger.specs.Entry.{card_slant}
 
 -- the index of the angle of q is q
 abbrev indexed : ℕ → Bool
-indexed q = eqb (slant_index (Degrees (angle_of q))) q
+indexed q = eqb (slant_index (Some (angle_of q))) q
 
 abbrev all_below : (ℕ → Bool) → ℕ → Bool
 all_below test zero = true
@@ -37,8 +36,8 @@ all_indexed : T (all_below indexed 240)
 unfolding slant_index angle_of add sub mul eq of_int decimal to_unsigned
 all_indexed = tt
 
-pub index_of_angle : (q : ℕ) → q < 240 → slant_index (Degrees (angle_of q)) ≡ q
-index_of_angle q h = eqb→eq (slant_index (Degrees (angle_of q))) q (at_below indexed 240 all_indexed q h)
+pub index_of_angle : (q : ℕ) → q < 240 → slant_index (Some (angle_of q)) ≡ q
+index_of_angle q h = eqb→eq (slant_index (Some (angle_of q))) q (at_below indexed 240 all_indexed q h)
 
 -- ---- of a slant that a session can report
 
@@ -47,16 +46,16 @@ unfolding between
 between_not q h = rw (lt-leb 240 q h)
 
 -- no card is refused for it
-pub index_free : (s : SlantDeg) → Listed s → between (slant_index s) ≡ false
+pub index_free : (s : Option Float) → Listed s → between (slant_index s) ≡ false
 index_free None none = unfold slant_index between in refl
-index_free (Degrees a) (angle q h) = ap between (index_of_angle q h) ∙ between_not q h
+index_free (Some a) (angle q h) = ap between (index_of_angle q h) ∙ between_not q h
 
-pub index_small : (s : SlantDeg) → Listed s → slant_index s < 256
+pub index_small : (s : Option Float) → Listed s → slant_index s < 256
 index_small None none = unfold slant_index in (lit< tt)
-index_small (Degrees a) (angle q h) = rw (index_of_angle q h) (omega arith)
+index_small (Some a) (angle q h) = rw (index_of_angle q h) (omega arith)
 
-pub slant_back : (s : SlantDeg) → Listed s → card_slant (slant_index s) ≡ s
+pub slant_back : (s : Option Float) → Listed s → card_slant (slant_index s) ≡ s
 slant_back None none = unfold slant_index in refl
-slant_back (Degrees a) (angle q h) =
+slant_back (Some a) (angle q h) =
     let other : q ≡ 255 → ⊥ = λ e. omega arith in
-    ap card_slant (index_of_angle q h) ∙ ap (λ (b : Bool). cond b None (Degrees (angle_of q))) (ne_eqb q 255 other)
+    ap card_slant (index_of_angle q h) ∙ ap (λ (b : Bool). cond b None (Some (angle_of q))) (ne_eqb q 255 other)

@@ -1,8 +1,6 @@
 -- What a card says of its session, and what of a session's point that is (02-change-requests.md, A.1, A.3): all but the count of windows, which a card
 -- lacks. Definitions only.
-use Rattle.std.specs.Prelude.{ℕ, ◌-◌, cond, eqb, ℤ, Float}
-use Rattle.hough.specs.declared.SlantDeg.{SlantDeg}
-use Rattle.hough.specs.declared.SlantDeg.TheVariants.{None, Degrees}
+use Rattle.std.specs.Prelude.{ℕ, ◌-◌, cond, eqb, ℤ, Float, Option, None, Some}
 use Rattle.hough.specs.Pass.{angle_of}
 use Rattle.plain.specs.Point as point
 use Rattle.plain.specs.Point.{Point, Stage}
@@ -10,7 +8,7 @@ use Rattle.card.specs.declared.Card.{Card}
 
 -- an end; of a session that has none yet there is no card
 pub data Entry : Type 0 where
-  reported : (start : ℕ) (start_quality rate : Float) (slant : SlantDeg) (skip : ℤ) (quality : Float) → Entry
+  reported : (start : ℕ) (start_quality rate : Float) (slant : Option Float) (skip : ℤ) (quality : Float) → Entry
   unfound : Entry
   cut_short : (start : ℕ) (start_quality : Float) → Entry
   endless : Entry
@@ -22,8 +20,8 @@ pub record Ledger : Type 0 where
 
 -- ---- of a card
 
-abbrev pub card_slant : ℕ → SlantDeg
-card_slant q = cond (eqb q 255) None (Degrees (angle_of q))
+abbrev pub card_slant : ℕ → Option Float
+card_slant q = cond (eqb q 255) None (Some (angle_of q))
 
 abbrev pub card_entry : Card → Entry
 card_entry c =

@@ -1,30 +1,25 @@
 -- The card of a session (02-change-requests.md, A.1). Definitions only.
-use Rattle.std.specs.Prelude.{ℕ, false, cond, ◌&&◌, ltb, pos, Float}
+use Rattle.std.specs.Prelude.{ℕ, false, cond, ◌&&◌, ltb, pos, Float, Option, None, Some, Result, Ok, Err}
 use Rattle.std.specs.Float.{fin, binary64}
 use Rattle.std.specs.Float.Ieee.{sub, mul, eq, to_unsigned}
+use Rattle.limits.specs.declared.Refusal.{Refusal}
 use Rattle.ieee.specs.Numbers.{of_nat}
-use Rattle.hough.specs.declared.SlantDeg.{SlantDeg}
-use Rattle.hough.specs.declared.SlantDeg.TheVariants.{None, Degrees}
 use Rattle.hough.specs.Pass.{angle_of}
 use Rattle.plain.specs.declared.End.{End}
 use Rattle.plain.specs.declared.End.TheVariants as end
 use Rattle.plain.specs.declared.Reading.{Reading}
 use Rattle.session.specs.declared.Session.{Session}
-use Rattle.session.specs.declared.Given.{Given}
-use Rattle.session.specs.declared.Given.TheVariants as given
 use Rattle.session.specs.Hold.{given_by}
 use Rattle.card.specs.declared.Card.{Card}
-use Rattle.ledger.specs.declared.SessionCard.{SessionCard}
-use Rattle.ledger.specs.declared.SessionCard.TheVariants as card
 
 -- q, if the angle is that of q; else 254, which no card may hold. A session's slant is always one of the 240 angles.
 abbrev pub index_at : ℕ → Float → ℕ
 index_at q angle = cond (ltb q 240 && eq (angle_of q) angle) q 254
 
 -- the slant index: 30 + q / 2 is the angle of q, and 255 is for none
-unfoldable pub slant_index : SlantDeg → ℕ
+unfoldable pub slant_index : Option Float → ℕ
 slant_index None = 255
-slant_index (Degrees angle) = index_at (to_unsigned 64 (mul binary64 (sub binary64 angle (of_nat 30)) (of_nat 2))) angle
+slant_index (Some angle) = index_at (to_unsigned 64 (mul binary64 (sub binary64 angle (of_nat 30)) (of_nat 2))) angle
 
 -- what an unfound and a cut short end lack is zero, q 255
 abbrev pub unreported_card : ℕ → ℕ → ℕ → ℕ → ℕ → Float → Card
@@ -65,9 +60,9 @@ abbrev pub card_by : ℕ → Reading → Card
 card_by mode g = end_card mode g.end g.taken g.evaluations
 
 -- a session without an end has no card: 11, as at read
-abbrev pub card_given : ℕ → Given → SessionCard
-card_given mode (given.Gave g) = card.Of (card_by mode g)
-card_given mode (given.Refused k) = card.Refused k
+abbrev pub card_given : ℕ → Result Reading Refusal → Result Card Refusal
+card_given mode (Ok g) = Ok (card_by mode g)
+card_given mode (Err e) = Err e
 
-abbrev pub session_card : Session → SessionCard
+abbrev pub session_card : Session → Result Card Refusal
 session_card s = card_given s.mode (given_by s.phase s)

@@ -2,19 +2,12 @@
 #![tactic(auto)]
 
 ghost use Rattle.std.specs.Prelude.{◌≡◌};
-ghost use Rattle.ledger.specs.Ledger.{index_at, slant_index, unreported_card, card_by, card_given, session_card};
+ghost use Rattle.ledger.specs.Ledger.{index_at, slant_index, card_by, session_card};
 
 use card::Card;
-use hough::SlantDeg;
+use limits::Refusal;
 use plain::{End, Reading};
-use session::{Given, Session};
-
-// The card, or the refusal's number.
-#[derive(Clone, Copy)]
-pub enum SessionCard {
-    Of(Card),
-    Refused(u8),
-}
+use session::Session;
 
 // q where it is the index of the angle, else 254, which no card may hold.
 fn index_at(q: u64, angle: f64) -> u8
@@ -24,18 +17,19 @@ fn index_at(q: u64, angle: f64) -> u8
         return 254;
     }
     if 30.0 + (q as f64) * 0.5 == angle {
-        return q as u8;
+        q as u8
+    } else {
+        254
     }
-    254
 }
 
 // The index of the slant's angle, 255 for none.
-fn slant_index(slant: SlantDeg) -> u8
+fn slant_index(slant: Option<f64>) -> u8
     ensures { result ≡ slant_index slant }
 {
     match slant {
-        SlantDeg::None => 255,
-        SlantDeg::Degrees(angle) => index_at(ieee::to_u64((angle - 30.0) * 2.0), angle),
+        None => 255,
+        Some(angle) => index_at(ieee::to_u64((angle - 30.0) * 2.0), angle),
     }
 }
 
@@ -43,10 +37,19 @@ fn slant_index(slant: SlantDeg) -> u8
 pub fn card_of(mode: u8, reading: Reading) -> Card
     ensures { result ≡ card_by mode reading }
 {
-    let end = reading.end;
-    let taken = reading.taken as u64;
-    let evaluations = reading.evaluations as u64;
-    match end {
+    let unfound = Card {
+        mode,
+        end: 1,
+        taken: reading.taken as u64,
+        evaluations: reading.evaluations as u64,
+        start: 0,
+        start_quality: 0.0,
+        rate: 0.0,
+        slant: 255,
+        skip: 0,
+        quality: 0.0,
+    };
+    match reading.end {
         End::Reported {
             start,
             windows: _,
@@ -56,63 +59,32 @@ pub fn card_of(mode: u8, reading: Reading) -> Card
             skip,
             quality,
         } => Card {
-            mode: mode,
             end: 0,
-            taken: taken,
-            evaluations: evaluations,
-            start: start,
-            start_quality: start_quality,
-            rate: rate,
+            start,
+            start_quality,
+            rate,
             slant: slant_index(slant),
-            skip: skip,
-            quality: quality,
+            skip,
+            quality,
+            ..unfound
         },
-        End::Unfound => unreported(mode, 1, taken, evaluations, 0, 0.0),
+        End::Unfound => unfound,
         End::CutShort {
             start,
             windows: _,
             start_quality,
-        } => unreported(mode, 2, taken, evaluations, start, start_quality),
-    }
-}
-
-// A card without a report.
-fn unreported(
-    mode: u8,
-    end: u8,
-    taken: u64,
-    evaluations: u64,
-    start: u64,
-    start_quality: f32,
-) -> Card
-    ensures { result ≡ unreported_card mode end taken evaluations start start_quality }
-{
-    Card {
-        mode: mode,
-        end: end,
-        taken: taken,
-        evaluations: evaluations,
-        start: start,
-        start_quality: start_quality,
-        rate: 0.0,
-        slant: 255,
-        skip: 0,
-        quality: 0.0,
-    }
-}
-
-fn given_card(mode: u8, given: Given) -> SessionCard
-    ensures { result ≡ card_given mode given }
-{
-    match given {
-        Given::Gave(reading) => SessionCard::Of(card_of(mode, reading)),
-        Given::Refused(number) => SessionCard::Refused(number),
+        } => Card {
+            end: 2,
+            start,
+            start_quality,
+            ..unfound
+        },
     }
 }
 
 // The card of a session that has ended. Before the end there is none: 11.
-pub fn session_card(s: Session) -> SessionCard
+pub fn session_card(s: Session) -> Result<Card, Refusal>
     ensures { result ≡ session_card s }
 {
-    given_card(s.mode, s.read())
+    Ok(card_of(s.mode, s.read()?))
 }

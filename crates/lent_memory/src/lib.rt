@@ -3,174 +3,122 @@
 
 pub mod pieces;
 
-ghost use Rattle.std.specs.Prelude.{◌≤◌};
+ghost use Rattle.std.specs.Prelude.{◌≡◌, true, All, replicate, IfOk, vec_len};
+ghost use Rattle.lent_memory.specs.Lent.{Fits, is_kept, work_value};
 
-fn wide(x: u8) -> u64 {
-    x as u64
+use std::alloc::{AllocError, Global};
+
+// What marks the memory that a new session may write.
+pub const FLAG_MARK: u8 = 9;
+
+pub const SAMPLE_MARK: f32 = 2.0;
+
+const WORK_MARK: u8 = 1;
+
+// How many places of each memory there are, or are lent to a call.
+#[derive(Clone, Copy)]
+pub struct Sizes {
+    pub store: usize,
+    pub audio: usize,
+    pub img: usize,
+    pub votes: usize,
 }
 
-fn wide16(x: u16) -> u64 {
-    x as u64
-}
-
-// Sums over a memory: one changed value shows.
-pub fn sum(memory: &[u8]) -> u64 {
-    let mut s: u64 = 0;
-    let mut i: usize = 0;
-    while i < memory.len() {
-        let x = memory[i];
-        s = std::num::wrapping_add_u64(s, wide(x));
-        i += 1;
-    }
-    s
-}
-
-pub fn sum16(memory: &[u16]) -> u64 {
-    let mut s: u64 = 0;
-    let mut i: usize = 0;
-    while i < memory.len() {
-        let x = memory[i];
-        s = std::num::wrapping_add_u64(s, wide16(x));
-        i += 1;
-    }
-    s
-}
-
-pub fn sum32(memory: &[f32]) -> f64 {
-    let mut s: f64 = 0.0;
-    let mut i: usize = 0;
-    while i < memory.len() {
-        let x = memory[i];
-        s = s + ieee::to_f64(x);
-        i += 1;
-    }
-    s
+// The memory that a session's calls are lent.
+#[derive(Drop)]
+pub struct Memory {
+    pub store: Vec<u8>,
+    pub audio: Vec<f32>,
+    pub img: Vec<u8>,
+    pub votes: Vec<u16>,
 }
 
 // The sums over all that a feed is lent.
-#[derive(Clone, Copy)]
+#[derive(Clone, Copy, PartialEq)]
 pub struct Sums {
-    pub store: u64,
-    pub audio: f64,
-    pub img: u64,
-    pub votes: u64,
+    store: u64,
+    audio: f64,
+    img: u64,
+    votes: u64,
 }
 
-// Made only around a call that is to be refused.
-pub fn summed(refused: bool, store: &[u8], audio: &[f32], img: &[u8], votes: &[u16]) -> Sums {
-    if refused {
+// A sum over a memory: one changed value shows.
+fn sum<T: Copy + Into<u64>>(memory: &[T]) -> u64 {
+    memory
+        .iter()
+        .fold(0, |sum: u64, x| sum.wrapping_add((*x).into()))
+}
+
+pub fn sum_of_samples(memory: &[f32]) -> f64 {
+    memory.iter().fold(0.0, |sum: f64, x| sum + f64::from(*x))
+}
+
+impl Memory {
+    pub fn new(sizes: Sizes, alloc: Global) -> Result<Memory, AllocError>
+        ensures { IfOk result (Fits sizes) }
+    {
+        Ok(Memory {
+            store: vec![in alloc; 0u8; sizes.store]?,
+            audio: vec![in alloc; 0.0f32; sizes.audio]?,
+            img: vec![in alloc; 0u8; sizes.img]?,
+            votes: vec![in alloc; 0u16; sizes.votes]?,
+        })
+    }
+
+    // Whether there are so many places.
+    pub fn has(&self, sizes: Sizes) -> bool
+        ensures { result ≡ true → Fits sizes self.now }
+    {
+        sizes.store <= self.store.len()
+            && sizes.audio <= self.audio.len()
+            && sizes.img <= self.img.len()
+            && sizes.votes <= self.votes.len()
+    }
+
+    // The sums over so many places.
+    pub fn sums(&self, sizes: Sizes) -> Sums
+        requires { Fits sizes self.now }
+    {
         Sums {
-            store: sum(store),
-            audio: sum32(audio),
-            img: sum(img),
-            votes: sum16(votes),
+            store: sum(&self.store[..sizes.store]),
+            audio: sum_of_samples(&self.audio[..sizes.audio]),
+            img: sum(&self.img[..sizes.img]),
+            votes: sum(&self.votes[..sizes.votes]),
         }
-    } else {
-        Sums {
-            store: 0,
-            audio: 0.0,
-            img: 0,
-            votes: 0,
-        }
+    }
+
+    // Marks what a new session may write: all but the four samples of an opening.
+    pub fn mark(&mut self)
+        ensures store { self.new.store.items ≡ replicate (vec_len self.old.store) 9 }
+        ensures img { self.new.img.items ≡ replicate (vec_len self.old.img) 1 }
+        ensures votes { self.new.votes.items ≡ replicate (vec_len self.old.votes) 1 }
+    {
+        self.store.fill(FLAG_MARK);
+        let first = self.audio.len().min(4);
+        self.audio[first..].fill(SAMPLE_MARK);
+        self.img.fill(WORK_MARK);
+        self.votes.fill(u16::from(WORK_MARK));
+    }
+
+    // Whether the work memory is cleared, or still marked all over.
+    pub fn work_is(&self, cleared: bool) -> bool
+        ensures img { result ≡ true → All (λ x. x ≡ work_value cleared) self.now.img.items }
+        ensures votes { result ≡ true → All (λ x. x ≡ work_value cleared) self.now.votes.items }
+    {
+        let value = if cleared { 0 } else { WORK_MARK };
+        self.img.iter().all(|x| *x == value) && self.votes.iter().all(|x| *x == u16::from(value))
     }
 }
 
-pub fn same_sums(a: Sums, b: Sums) -> bool {
-    a.store == b.store && a.audio == b.audio && a.img == b.img && a.votes == b.votes
-}
-
-// Whether the first n values of `part` stand at the front of `memory`.
-pub fn begins_with(memory: &[u8], part: &[u8], n: usize) -> bool {
-    let mut i: usize = 0;
-    while i < n {
-        if i >= memory.len() {
-            return false;
-        }
-        if i >= part.len() {
-            return false;
-        }
-        let x = memory[i];
-        let y = part[i];
-        if x != y {
-            return false;
-        }
-        i += 1;
-    }
-    true
-}
-
-pub fn begins_with32(memory: &[f32], part: &[f32], n: usize) -> bool {
-    let mut i: usize = 0;
-    while i < n {
-        if i >= memory.len() {
-            return false;
-        }
-        if i >= part.len() {
-            return false;
-        }
-        let x = memory[i];
-        let y = part[i];
-        if x != y {
-            return false;
-        }
-        i += 1;
-    }
-    true
-}
-
-// Whether n flags of a piece stand in the store from place `at` on, and a mark behind them.
-pub fn flags_kept(store: &[u8], at: usize, flags: &[u8], n: usize) -> bool {
-    if at > store.len() {
+// Whether a piece stands in a memory from place `at` on, and a mark behind it, where there is a place.
+pub fn is_kept<T: PartialEq>(memory: &[T], at: usize, piece: &[T], mark: &T) -> bool
+    ensures { result ≡ is_kept T.eq memory.now at piece.now mark.now }
+{
+    if at > memory.len() {
         return false;
     }
-    let tail = &store[at..];
-    if n < tail.len() {
-        if tail[n] != 9 {
-            return false;
-        }
+    match memory[at..].strip_prefix(piece) {
+        Some(rest) => rest.first().is_none_or(|x| x == mark),
+        None => false,
     }
-    begins_with(tail, flags, n)
-}
-
-pub fn samples_kept(audio: &[f32], at: usize, samples: &[f32], n: usize) -> bool {
-    if at > audio.len() {
-        return false;
-    }
-    let tail = &audio[at..];
-    if n < tail.len() {
-        if tail[n] != 2.0 {
-            return false;
-        }
-    }
-    begins_with32(tail, samples, n)
-}
-
-fn fill16(memory: &mut [u16], value: u16) {
-    let mut i: usize = 0;
-    while i < memory.len() {
-        memory[i] = value;
-        i += 1;
-    }
-}
-
-// All but the four samples of an opening.
-fn mark_samples(audio: &mut [f32]) {
-    let from = limits::min(4, audio.len());
-    replay::fill32(&mut audio[from..], 2.0);
-}
-
-// Marks what a new session may write.
-pub fn mark(store: &mut [u8], audio: &mut [f32], img: &mut [u8], votes: &mut [u16]) {
-    replay::fill(store, 9);
-    mark_samples(audio);
-    replay::fill(img, 1);
-    fill16(votes, 1);
-}
-
-// Whether the work memory is cleared, or still marked all over.
-pub fn work_is(cleared: bool, img: &[u8], votes: &[u16]) -> bool {
-    if cleared {
-        return sum(img) == 0 && sum16(votes) == 0;
-    }
-    sum(img) == (img.len() as u64) && sum16(votes) == (votes.len() as u64)
 }

@@ -1,73 +1,89 @@
-// The pieces of a recorded call: their sizes, which stand in the halves of a word, and what they hold.
-ghost use Rattle.std.specs.Prelude.{◌^◌, ◌≤◌};
+// The piece of a recorded feed: its sizes, which stand in the halves of a word, and what it holds.
+ghost use Rattle.std.specs.Prelude.{◌≡◌, ◌/◌, ◌%◌, ◌^◌, IfOk, vec_len};
+ghost use Rattle.lent_memory.specs.Pieces.{IsAsLong};
 
-use replay::lists;
+use replay::payload::{self, Payload};
+use std::alloc::{AllocError, Global};
 
-fn low(x: u64) -> usize {
-    (x & 0xffff_ffff) as usize
-}
-
-fn high(x: u64) -> usize {
-    (x >> 32) as usize
-}
-
-// Whether the halves of a word are at most so many.
-pub fn fits(x: u64, lows: usize, highs: usize) -> bool {
-    low(x) <= lows && high(x) <= highs
-}
-
-// A half of a word, cut to the places that there are.
-pub fn low_within(x: u64, most: usize) -> usize
-    ensures { result ≤ most }
+// The lower and the upper half of a word, as two sizes.
+pub fn halves(word: u64) -> (usize, usize)
+    ensures low { result.0 ≡ word % 2 ^ 32 }
+    ensures high { result.1 ≡ word / 2 ^ 32 }
 {
-    let n = low(x);
-    if n < most { n } else { most }
+    ((word & 0xffff_ffff) as usize, (word >> 32) as usize)
 }
 
-pub fn high_within(x: u64, most: usize) -> usize
-    ensures { result ≤ most }
-{
-    let n = high(x);
-    if n < most { n } else { most }
+// No piece has more.
+const MOST_FLAGS: usize = 110000;
+
+const MOST_SAMPLES: usize = 440000;
+
+#[derive(Drop)]
+pub struct Piece {
+    pub flags: Vec<u8>,
+    pub samples: Vec<f32>,
 }
 
-// Overwrites a flag of a piece where there is one to overwrite: a place and a value stand at place k of the payload.
-fn overwrite(bytes: &[u8], k: usize, odd: usize, flags: &mut [u8])
-    requires { k ≤ 2 ^ 33 }
-{
-    if odd == 0 {
-        return;
+// Overwrites a flag of a piece, where it has one at the recorded place: the place and the value come next in the payload.
+fn overwrite(payload: &mut Payload<'_>, flags: &mut [u8]) {
+    let place = payload.number() as usize;
+    let value = payload.number();
+    if let (Some(flag), Ok(value)) = (flags.get_mut(place), u8::try_from(value)) {
+        *flag = value;
     }
-    let place = lists::size_at(bytes, k);
-    let value = lists::size_at(bytes, k + 1);
-    if value > 255 {
-        return;
-    }
-    if place >= flags.len() {
-        return;
-    }
-    flags[place] = value as u8;
 }
 
-fn samples_read(bytes: &[u8], k: usize, samples: &mut [f32]) {
-    replay::fill32(samples, 0.0);
-    lists::pieces(bytes, k, samples);
+impl Piece {
+    // The flags and the samples of a piece, of whose flags one at most is overwritten. None where they are not as many as the record says.
+    pub fn read(lengths: u64, bytes: &[u8], alloc: Global) -> Result<Option<Piece>, AllocError>
+        ensures { IfOk result (IsAsLong lengths) }
+    {
+        let (flag_count, sample_count) = halves(lengths);
+        let numbers = payload::half_word_list(bytes, alloc)?;
+        let mut payload = Payload::new(&numbers);
+        let mut flags = payload.flags(MOST_FLAGS, alloc)?;
+        let overwritten = payload.number();
+        if flags.len() != flag_count || sample_count > MOST_SAMPLES || overwritten > 1 {
+            return Ok(None);
+        }
+        if overwritten == 1 {
+            overwrite(&mut payload, &mut flags);
+        }
+        let mut samples = vec![in alloc; 0.0f32; sample_count]?;
+        payload.samples(&mut samples);
+        Ok(Some(Piece { flags, samples }))
+    }
 }
 
-// Reads the flags and the samples of a piece, of whose flags one at most is overwritten. False where they are not as many as the
-// record says.
-pub fn piece_read(a: u64, bytes: &[u8], flags: &mut [u8], samples: &mut [f32]) -> bool {
-    let sounds = high(a);
-    let k = lists::behind_flags(bytes);
-    let odd = lists::size_at(bytes, k);
-    if sounds > samples.len() {
-        return false;
+#[cfg(test)]
+mod tests {
+    use super::Piece;
+    use crate::{Memory, Sizes};
+    use std::test::Fail;
+
+    // One flag 0 and two flags 1, of which the first is overwritten by a 7, and the sample 1 at place 1.
+    const PIECE: [u8; 36] = [
+        2, 0, 0, 0, 1, 0, 0, 0, 2, 0, 0, 0, 1, 0, 0, 0, 0, 0, 0, 0, 7, 0, 0, 0, 1, 0, 0, 0, 1, 0,
+        0, 0, 0, 0, 0x80, 0x3f,
+    ];
+
+    #[test]
+    fn memory_and_pieces_are_made(rt: HostRuntime) -> Result<(), Fail> {
+        let sizes = Sizes {
+            store: 1,
+            audio: 2,
+            img: 3,
+            votes: 4,
+        };
+        let memory = Memory::new(sizes, rt.alloc())?;
+        assert_eq!(rt; memory.store.as_slice(), [0].as_slice());
+        assert_eq!(rt; memory.audio.as_slice(), [0.0; 2].as_slice());
+        assert_eq!(rt; memory.img.as_slice(), [0; 3].as_slice());
+        assert_eq!(rt; memory.votes.as_slice(), [0; 4].as_slice());
+
+        let piece = Piece::read(0x2_0000_0003, &PIECE, rt.alloc())?.ok_or("no piece")?;
+        assert_eq!(rt; piece.flags.as_slice(), [7, 1, 1].as_slice());
+        assert_eq!(rt; piece.samples.as_slice(), [0.0, 1.0].as_slice());
+        Ok(())
     }
-    if odd > 1 {
-        return false;
-    }
-    let n = lists::flags(bytes, flags);
-    overwrite(bytes, k + 1, odd, flags);
-    samples_read(bytes, k + 1 + 2 * odd, &mut samples[..sounds]);
-    n == low(a)
 }

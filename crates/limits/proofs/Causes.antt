@@ -1,16 +1,16 @@
--- Laws of the number of a refused call: what a number of 0 says of its causes. Assumes nothing.
+-- Laws of a call's refusal: what it says of the causes where there is none. Assumes nothing.
 use mathlib.Core.Path.{◌≡◌, refl}
 use mathlib.Core.Bool.{Bool, true, false, true≢false, cond, ◌||◌}
-use Prim.Native.Nat.{ℕ, ◌<◌}
+use Rattle.std.specs.Prelude.{◌<◌, Result, Ok, Err}
+use Rattle.limits.specs.declared.Refusal.{Refusal}
+use Rattle.limits.specs.declared.Refusal.TheVariants as why
+use Rattle.limits.specs.Refusals.{number_of, or_else, is_allowed}
 use native.Mathlib.Omega.{arith}
-use lib.Dec.{eqb}
-use borrow.Author.Tests.{eq-eqb, ne_eqb, eqb-true, eqb-false}
-use Rattle.limits.specs.Refusals.{or_else}
 
--- a cause that gave no number does not apply
-pub none : (b : Bool) (n r : ℕ) → 0 < n → cond b n r ≡ 0 → (b ≡ false) × (r ≡ 0)
-none true n r h e = absurd (omega arith)
-none false n r h e = (refl, e)
+-- a cause that did not refuse does not apply
+pub none : (b : Bool) (e : Refusal) (r : Result Unit Refusal) → cond b (Err e) r ≡ Ok tt → (b ≡ false) × (r ≡ Ok tt)
+none true e r h = cc
+none false e r h = (refl, h)
 
 -- ---- two causes of one number, none of which applies
 
@@ -22,17 +22,38 @@ pub or_right : (a b : Bool) → a || b ≡ false → b ≡ false
 or_right true b e = absurd (true≢false e)
 or_right false b e = e
 
--- ---- of two numbers the first that is not 0
+-- ---- of two the first that refuses
 
-pub or_else_first : (a b : ℕ) → (a ≡ 0 → ⊥) → or_else a b ≡ a
-or_else_first a b h = rw (ne_eqb a 0 h)
+pub or_else_first : (a b : Result Unit Refusal) (e : Refusal) → a ≡ Err e → or_else a b ≡ Err e
+or_else_first a b e h = rw h refl
 
-pub or_else_next : (a b : ℕ) → a ≡ 0 → or_else a b ≡ b
-or_else_next a b h = rw (eq-eqb a 0 h)
+pub or_else_next : (a b : Result Unit Refusal) → a ≡ Ok tt → or_else a b ≡ b
+or_else_next a b h = rw h refl
 
-pub or_else_none : (a b : ℕ) → or_else a b ≡ 0 → (a ≡ 0) × (b ≡ 0)
-or_else_none a b e = go (eqb a 0) refl e
-  where
-    go : (t : Bool) → eqb a 0 ≡ t → cond t b a ≡ 0 → (a ≡ 0) × (b ≡ 0)
-    go true h e = (eqb-true a 0 h, e)
-    go false h e = absurd (eqb-false a 0 h e)
+pub or_else_none : (a b : Result Unit Refusal) → or_else a b ≡ Ok tt → (a ≡ Ok tt) × (b ≡ Ok tt)
+or_else_none (Ok tt) b h = (refl, h)
+or_else_none (Err e) b h = cc
+
+pub allowed_is_ok : (r : Result Unit Refusal) → is_allowed r ≡ true → r ≡ Ok tt
+allowed_is_ok (Ok tt) h = refl
+allowed_is_ok (Err e) h = absurd (true≢false (cc))
+
+-- ---- the numbers: from 1 on, and no two alike
+
+pub number_positive : (e : Refusal) → 0 < number_of e
+number_positive = elim [
+  | why.Mode ↦ omega arith
+  | why.Rate ↦ omega arith
+  | why.Shift ↦ omega arith
+  | why.Anchor ↦ omega arith
+  | why.Memory ↦ omega arith
+  | why.Length ↦ omega arith
+  | why.Flag ↦ omega arith
+  | why.Sample ↦ omega arith
+  | why.Count ↦ omega arith
+  | why.Ended ↦ omega arith
+  | why.NotEnded ↦ omega arith
+  | why.CardLength ↦ omega arith
+  | why.CardMark ↦ omega arith
+  | why.CardField ↦ omega arith
+]

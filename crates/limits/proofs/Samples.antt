@@ -2,22 +2,20 @@
 -- Assumes nothing.
 use mathlib.Core.Path.{◌≡◌, refl, sym, ◌∙◌, ap}
 use mathlib.Core.Bool.{Bool, true, false, true≢false, ◌&&◌, ◌||◌}
-use mathlib.Core.List.{List}
-use Prim.Native.Nat.{ℕ, ◌+◌, ◌*◌, ◌≤◌, ◌<◌}
+use mathlib.Core.List.{List, [], ◌∷◌}
+use Prim.Native.Nat.{ℕ, ◌+◌, ◌*◌, ◌≤◌}
 use native.Mathlib.Omega.{arith}
-use native.Mathlib.Numerals.{add-one}
-use lib.ListN.{length, drop, get_or, drop_of_length-le}
-use lib.Seq.{drop-cons}
 use lib.Dec.{ltb, eqb}
+use Rattle.std.specs.List.{list_any}
 use lib.IntN.{pos}
 use lib.Ieee.{Float, nan, inf, fin, up, down, lt, eq, le}
 use borrow.Author.Tests.{ltb-true, ltb-false, eqb-true, eqb-false, lt-ltb, le-ltb, eq-eqb}
 use Rattle.limits.specs.Ranges.{unsound, any_unsound}
 
-abbrev low : Float
+abbrev pub low : Float
 low = fin true 1 (pos 0)
 
-abbrev high : Float
+abbrev pub high : Float
 high = fin false 1 (pos 0)
 
 -- ---- a and b are the magnitude and 1 over one denominator
@@ -43,7 +41,7 @@ high_neg a b false h e =
     let none : eqb a 0 ≡ true = eq-eqb a 0 (omega arith) in
     true≢false (sym (ap (λ (v : Bool). v && eqb a 0) same ∙ none) ∙ e)
 
--- ---- the three ways of the code
+-- ---- below -1, up to 1, and above it
 
 pub sound_low : (x : Float) → lt x low ≡ true → unsound x ≡ true
 unfolding lt unsound
@@ -69,10 +67,7 @@ sound_high (fin false m z) h e = high_pos (m * up z * 1) (1 * down z) (ltb (m * 
 
 -- ---- a list, sample by sample
 
-pub unsound_more : (s : List Float) (i : ℕ) (d : Float) → i < length s → any_unsound (drop i s) ≡ unsound (get_or s i d) || any_unsound (drop (i + 1) s)
+pub unsound_any : (xs : List Float) → list_any unsound xs ≡ any_unsound xs
 unfolding any_unsound
-unsound_more s i d h = rw (add-one, drop-cons s i d)
-
-pub unsound_end : (s : List Float) (i : ℕ) → length s ≤ i → any_unsound (drop i s) ≡ false
-unfolding any_unsound
-unsound_end s i h = rw (drop_of_length-le s {i = i} h)
+unsound_any [] = refl
+unsound_any (x ∷ xs) = ap (λ (b : Bool). unsound x || b) (unsound_any xs)

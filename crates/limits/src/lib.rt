@@ -1,8 +1,50 @@
 // Sizes of lent memory, limits of numbers, and the tests of flags and samples that several calls make before they take anything.
 #![tactic(auto)]
 
-ghost use Rattle.std.specs.Prelude.{◌≡◌, min, max};
+ghost use Rattle.std.specs.Prelude.{◌≡◌};
 ghost use Rattle.limits.specs.Ranges.{all_at_most, unsound, any_unsound};
+ghost use Rattle.limits.specs.Refusals.{number_of};
+
+// Why a call is refused. The numbers are the exported calls' answers, of which the lowest that applies is given.
+#[derive(Clone, Copy, Debug, PartialEq, Eq)]
+pub enum Refusal {
+    // a mode above 15
+    Mode = 1,
+    // a rate that is not finite, or outside 8,000 to 48,000 Hz
+    Rate = 2,
+    // a shift that is not finite, or beyond 5,000 Hz
+    Shift = 3,
+    // an anchor or a centre above 2^62
+    Anchor = 4,
+    // memory of a length that the call can't work in
+    Memory = 5,
+    // flags, samples or a spectrum of another length
+    Length = 6,
+    // a flag above 1
+    Flag = 7,
+    // a number that is not finite, or a sample beyond 1
+    Sample = 8,
+    // a count, or how many of what is counted, outside the limits
+    Count = 9,
+    // a feed after the end
+    Ended = 10,
+    // a read before it
+    NotEnded = 11,
+    // a card that is not 56 bytes
+    CardLength = 12,
+    // another mark or version
+    CardMark = 13,
+    // fields that no card has
+    CardField = 14,
+}
+
+impl Refusal {
+    pub fn number(self) -> u8
+        ensures { result ≡ number_of self }
+    {
+        self as u8
+    }
+}
 
 // The most flags of a store or a list.
 pub const MAX_FLAGS: usize = 16777216;
@@ -18,61 +60,23 @@ pub const WORKING_SAMPLE_RATE_HZ: f64 = 11025.0;
 // 2^62, the largest anchor and centre: a position added to it stays a 64-bit number.
 pub const MAX_ANCHOR: u64 = 4611686018427387904;
 
-pub fn min(a: usize, b: usize) -> usize
-    ensures { result ≡ min a b }
-{
-    if a < b { a } else { b }
-}
-
-pub fn max(a: usize, b: usize) -> usize
-    ensures { result ≡ max a b }
-{
-    if a < b { b } else { a }
-}
-
-pub fn max_u32(a: u32, b: u32) -> u32
-    ensures { result ≡ max a b }
-{
-    if a < b { b } else { a }
-}
-
-// Whether no flag is above the limit. It goes on to the end, so that LLVM tests many flags at a time.
+// Whether no flag is above the limit. It goes on to the end, so that LLVM takes the largest of many flags at a time.
 pub fn all_at_most(limit: u8, flags: &[u8]) -> bool
     ensures { result ≡ all_at_most limit flags.now }
 {
-    let mut allowed = true;
-    let mut i: usize = 0;
-    while i < flags.len() {
-        allowed = allowed & (flags[i] <= limit);
-        i += 1;
-    }
-    allowed
+    flags.iter().fold(0, |most, flag| most.max(*flag)) <= limit
 }
 
-// Whether a sample is not finite or beyond 1.
+// Whether a sample is not finite or beyond 1. A NaN fails both comparisons.
 fn unsound(x: f32) -> bool
     ensures { result ≡ unsound x }
 {
-    if x < -1.0 {
-        return true;
-    }
-    if x <= 1.0 {
-        return false;
-    }
-    true
+    x < -1.0 || !(x <= 1.0)
 }
 
 // Whether any of the samples is.
 pub fn any_unsound(samples: &[f32]) -> bool
     ensures { result ≡ any_unsound samples.now }
 {
-    let mut i: usize = 0;
-    while i < samples.len() {
-        let x = samples[i];
-        if unsound(x) {
-            return true;
-        }
-        i += 1;
-    }
-    false
+    samples.iter().any(|x| unsound(*x))
 }

@@ -6,6 +6,7 @@ ghost use Rattle.std.specs.Prelude.{◌≡◌, true, ◌≤◌, length};
 ghost use Rattle.modespec.specs.Sizes as Sizes;
 ghost use Rattle.line_parity.specs.Parity as Parity;
 
+use dsp::Tone;
 use modespec::ModeSpec;
 
 // The samples of a tone, 4.5 ms.
@@ -48,8 +49,8 @@ fn is_known(n: usize, from: f64) -> bool
 fn lean(tone: &[f32]) -> f64
     ensures { result ≡ Parity.lean_of tone.now }
 {
-    let even_power = dsp::goertzel_1500(tone);
-    let odd_power = dsp::goertzel_2300(tone);
+    let even_power = dsp::goertzel_power(tone, Tone::Hz1500);
+    let odd_power = dsp::goertzel_power(tone, Tone::Hz2300);
     (odd_power - even_power) / (odd_power + even_power + EPSILON)
 }
 
@@ -96,10 +97,8 @@ pub fn first_line_is_odd(mode: u8, spec: ModeSpec, samples: &[f32], start: f64) 
     }
     let lines = modespec::window_lines(spec);
     let mut vote: f64 = 0.0;
-    let mut k: usize = 0;
-    while k < lines {
+    for k in 0..lines {
         vote = vote_on(spec, samples, start, k, vote);
-        k += 1;
     }
     vote > 0.0
 }

@@ -1,6 +1,7 @@
 -- The known answers of 01-scope.md that are marked (c), computed from the definitions.
 -- Assumes nothing.
-use Rattle.std.proofs.Common.{ℕ, Bool, true, ◌&&◌, T, eqb, List, [], ◌∷◌}
+use Rattle.std.proofs.Common.{ℕ, Bool, ◌&&◌, T, eqb, List, [], ◌∷◌}
+use Rattle.std.specs.List.{list_all}
 use lib.Ieee.{of_int}
 use Rattle.modespec.specs.ModeSpec.{spec_of}
 use Rattle.modespec.specs.Sizes.{window_probes, line_width, pulse_columns}
@@ -15,11 +16,6 @@ pub record Sizes : Type 0 where
 abbrev pub right : Sizes → Bool
 right a = eqb (window_probes (spec_of a.mode)) a.w && eqb (line_width (spec_of a.mode)) a.W && eqb (pulse_columns (spec_of a.mode) 700) a.columns
 
--- whether a test holds of each of a list
-abbrev pub all_of : {A : Type 0} → (A → Bool) → List A → Bool
-all_of test [] = true
-all_of test (a ∷ rest) = test a && all_of test rest
-
 -- PD 120, Robot 36, Scottie 1, Martin 1
 abbrev pub known : List Sizes
 known =
@@ -29,6 +25,6 @@ known =
     record { mode = 12; w = 9846; W = 367; columns = 8 } ∷
     []
 
-pub known_answers : T (all_of right known)
+pub known_answers : T (list_all right known)
 unfolding spec_of window_probes line_width pulse_columns of_int
 known_answers = tt

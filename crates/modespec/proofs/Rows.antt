@@ -1,6 +1,7 @@
 -- What holds of the row of every mode number: each rule is one test that is computed over the sixteen rows.
 -- Assumes nothing.
-use Rattle.std.proofs.Common.{◌≡◌, ℕ, zero, suc, ◌^◌, ◌<◌, ◌≤◌, Bool, true, ◌&&◌, T, leb, List, [], ◌∷◌, get_or, sym, lt_of_le_of_lt, lit<, leb→le}
+use Rattle.std.proofs.Common.{◌≡◌, ℕ, zero, suc, ◌^◌, ◌<◌, ◌≤◌, Bool, ◌&&◌, T, leb, List, [], ◌∷◌, get_or, sym, lt_of_le_of_lt, lit<, leb→le}
+use Rattle.std.specs.List.{list_all}
 use lib.ListN.{get_or-map}
 use lib.Ieee.{binary64, div, of_int}
 use lib.Ieee.Fits.{and_l, and_r}
@@ -9,24 +10,19 @@ use Rattle.modespec.specs.declared.ModeSpec.{ModeSpec}
 use Rattle.modespec.specs.ModeSpec.{spec_of, rows, wraase180}
 use Rattle.modespec.specs.Sizes.{working_rate, radio_lines, window_lines, window_probes, image_probes, line_width, pulse_columns}
 
--- the test passes at each row
-abbrev pub every : (ModeSpec → Bool) → List ModeSpec → Bool
-every test [] = true
-every test (r ∷ rs) = test r && every test rs
-
-at : (test : ModeSpec → Bool) (rs : List ModeSpec) (d : ModeSpec) → T (every test rs) → T (test d) → (i : ℕ) → T (test (get_or rs i d))
+at : (test : ModeSpec → Bool) (rs : List ModeSpec) (d : ModeSpec) → T (list_all test rs) → T (test d) → (i : ℕ) → T (test (get_or rs i d))
 at test [] d all last i = last
-at test (r ∷ rs) d all last zero = and_l (test r) (every test rs) all
-at test (r ∷ rs) d all last (suc i) = at test rs d (and_r (test r) (every test rs) all) last i
+at test (r ∷ rs) d all last zero = and_l (test r) (list_all test rs) all
+at test (r ∷ rs) d all last (suc i) = at test rs d (and_r (test r) (list_all test rs) all) last i
 
 -- it passes at the rows, and at the one that a number above 15 gets
 abbrev pub passes : (ModeSpec → Bool) → Bool
-passes test = test wraase180 && every test rows
+passes test = test wraase180 && list_all test rows
 
 -- so it passes for every mode number
 pub holds : (test : ModeSpec → Bool) → T (passes test) → (mode : ℕ) → T (test (spec_of mode))
 unfolding spec_of
-holds test t mode = at test rows wraase180 (and_r (test wraase180) (every test rows) t) (and_l (test wraase180) (every test rows) t) mode
+holds test t mode = at test rows wraase180 (and_r (test wraase180) (list_all test rows) t) (and_l (test wraase180) (list_all test rows) t) mode
 
 -- lo ≤ x ≤ hi
 pub record Within (lo hi x : ℕ) : Type 0 where

@@ -4,8 +4,32 @@
 
 ghost use Rattle.std.specs.Prelude.{◌≡◌, ◌^◌, ◌<◌};
 ghost use Rattle.modespec.specs.ModeSpec.{spec_of};
+ghost use Rattle.modespec.specs.Mode.{mode_number, Numbered};
 ghost use Rattle.modespec.specs.Sizes as Sizes;
 ghost use Rattle.modespec.specs.Calls.{columns_of};
+
+use limits::Refusal;
+
+// The modes, in the order of `SstvMode`. A mode's number is its place.
+#[derive(Clone, Copy, Debug, PartialEq, Eq)]
+pub enum Mode {
+    Pd120,
+    Pd180,
+    Pd240,
+    Robot24,
+    Robot36,
+    Robot72,
+    Robot24Bw,
+    Robot12Bw,
+    Robot8Bw,
+    Scottie1,
+    Scottie2,
+    ScottieDx,
+    Martin1,
+    Martin2,
+    Wraase120,
+    Wraase180,
+}
 
 // How a radio line carries its channels. Two image rows go into one radio line of `PdYcbcr`.
 #[derive(Clone, Copy)]
@@ -44,13 +68,6 @@ const SYNC_PROBE_STRIDE: f64 = 4.0;
 const MIN_WINDOW_LINES: usize = 8;
 
 const MIN_WINDOW_SECONDS: f64 = 2.0;
-
-// The answer of `sync_pulse_columns`: how many columns, or the number of the refusal.
-#[derive(Clone, Copy)]
-pub enum Columns {
-    Count(usize),
-    Refused(u8),
-}
 
 const PD120: ModeSpec = ModeSpec {
     mode: 0,
@@ -244,37 +261,76 @@ const WRAASE180: ModeSpec = ModeSpec {
     sync_position: SyncPosition::LineStart,
 };
 
-// The row of a mode's number. A number above 15, which every exported call refuses with 1, gets the last row.
+// The mode of a number. Every exported call refuses a number above 15 with 1.
+impl TryFrom<u8> for Mode {
+    type Error = Refusal;
+
+    ghost try_from_gives = { Numbered };
+
+    fn try_from(number: u8) -> Result<Self, Refusal> {
+        match number {
+            0 => Ok(Mode::Pd120),
+            1 => Ok(Mode::Pd180),
+            2 => Ok(Mode::Pd240),
+            3 => Ok(Mode::Robot24),
+            4 => Ok(Mode::Robot36),
+            5 => Ok(Mode::Robot72),
+            6 => Ok(Mode::Robot24Bw),
+            7 => Ok(Mode::Robot12Bw),
+            8 => Ok(Mode::Robot8Bw),
+            9 => Ok(Mode::Scottie1),
+            10 => Ok(Mode::Scottie2),
+            11 => Ok(Mode::ScottieDx),
+            12 => Ok(Mode::Martin1),
+            13 => Ok(Mode::Martin2),
+            14 => Ok(Mode::Wraase120),
+            15 => Ok(Mode::Wraase180),
+            _ => Err(Refusal::Mode),
+        }
+    }
+}
+
+impl Mode {
+    // The mode's row.
+    #[tactic(auto, unfolding(crate::specs::ModeSpec::spec_of, crate::specs::Literals::of_bits))]
+    pub fn spec(self) -> ModeSpec
+        ensures { result ≡ spec_of (mode_number self) }
+    {
+        match self {
+            Mode::Pd120 => PD120,
+            Mode::Pd180 => PD180,
+            Mode::Pd240 => PD240,
+            Mode::Robot24 => ROBOT24,
+            Mode::Robot36 => ROBOT36,
+            Mode::Robot72 => ROBOT72,
+            Mode::Robot24Bw => ROBOT24_BW,
+            Mode::Robot12Bw => ROBOT12_BW,
+            Mode::Robot8Bw => ROBOT8_BW,
+            Mode::Scottie1 => SCOTTIE1,
+            Mode::Scottie2 => SCOTTIE2,
+            Mode::ScottieDx => SCOTTIE_DX,
+            Mode::Martin1 => MARTIN1,
+            Mode::Martin2 => MARTIN2,
+            Mode::Wraase120 => WRAASE120,
+            Mode::Wraase180 => WRAASE180,
+        }
+    }
+}
+
+// The row of a mode's number. A number above 15 gets the last row.
 pub fn for_mode(mode: u8) -> ModeSpec
     ensures { result ≡ spec_of mode }
 {
-    match mode {
-        0 => PD120,
-        1 => PD180,
-        2 => PD240,
-        3 => ROBOT24,
-        4 => ROBOT36,
-        5 => ROBOT72,
-        6 => ROBOT24_BW,
-        7 => ROBOT12_BW,
-        8 => ROBOT8_BW,
-        9 => SCOTTIE1,
-        10 => SCOTTIE2,
-        11 => SCOTTIE_DX,
-        12 => MARTIN1,
-        13 => MARTIN2,
-        14 => WRAASE120,
-        _ => WRAASE180,
-    }
+    Mode::try_from(mode).unwrap_or(Mode::Wraase180).spec()
 }
 
 impl ModeSpec {
     // Radio lines per image, each starting with one sync pulse. PD packs two image rows into each.
+    #[tactic(auto, unfolding(crate::specs::Sizes::radio_lines))]
     pub fn radio_lines(self) -> u32
         ensures { result ≡ Sizes.radio_lines self }
     {
-        let layout = self.channel_layout;
-        match layout {
+        match self.channel_layout {
             ChannelLayout::PdYcbcr => self.image_lines / 2,
             ChannelLayout::RobotYuv => self.image_lines,
             ChannelLayout::RgbSequential => self.image_lines,
@@ -284,11 +340,11 @@ impl ModeSpec {
 
     // What is added to the skip of a falling edge, in seconds, so that it lands on line 0's content. The pulse of
     // Scottie sits inside the line: half a channel back, two porches on.
+    #[tactic(auto, unfolding(crate::specs::Sizes::skip_correction, crate::specs::Sizes::scottie_correction, crate::specs::Literals::of_bits))]
     pub fn skip_correction_seconds(self) -> f64
         ensures { result ≡ Sizes.skip_correction self }
     {
-        let position = self.sync_position;
-        match position {
+        match self.sync_position {
             SyncPosition::LineStart => 0.0,
             SyncPosition::Scottie => {
                 let chan_len: f64 = (self.line_pixels as f64) * self.pixel_seconds;
@@ -302,29 +358,31 @@ impl ModeSpec {
 pub fn has_parity_tone(mode: u8) -> bool
     ensures { result ≡ Sizes.robot mode }
 {
-    mode == 3 || mode == 4
+    matches!(Mode::try_from(mode), Ok(Mode::Robot24 | Mode::Robot36))
 }
 
 // Seconds from a line's start to its sync pulse: the inverse of `find_sync`'s skip.
+#[tactic(auto, unfolding(crate::specs::Sizes::pulse_offset, crate::specs::Literals::of_bits))]
 pub fn pulse_offset_seconds(spec: ModeSpec) -> f64
     ensures { result ≡ Sizes.pulse_offset spec }
 {
-    let position = spec.sync_position;
-    match position {
+    match spec.sync_position {
         SyncPosition::LineStart => 0.0,
         SyncPosition::Scottie => spec.line_seconds / 2.0 - spec.skip_correction_seconds(),
     }
 }
 
 // Lines folded in one evaluation of the start search.
+#[tactic(auto, unfolding(crate::specs::Sizes::window_lines, crate::specs::Literals::of_bits))]
 pub fn window_lines(spec: ModeSpec) -> usize
     ensures { result ≡ Sizes.window_lines spec }
 {
     let for_seconds: usize = ieee::ceil_to_u64(MIN_WINDOW_SECONDS / spec.line_seconds) as usize;
-    limits::max(MIN_WINDOW_LINES, for_seconds)
+    MIN_WINDOW_LINES.max(for_seconds)
 }
 
 // Samples of a line at the working rate.
+#[tactic(auto, unfolding(crate::specs::Sizes::line_samples, crate::specs::Literals::of_bits))]
 pub fn line_samples(spec: ModeSpec) -> f64
     ensures { result ≡ Sizes.line_samples spec }
 {
@@ -332,6 +390,7 @@ pub fn line_samples(spec: ModeSpec) -> f64
 }
 
 // w: the flags of one evaluation's window. The Rust's + 1 must not wrap.
+#[tactic(auto, unfolding(crate::specs::Sizes::window_probes, crate::specs::Literals::of_bits))]
 fn window_probes(spec: ModeSpec) -> usize
     requires { Sizes.window_probes spec < 2 ^ 64 }
     ensures { result ≡ Sizes.window_probes spec }
@@ -349,6 +408,7 @@ pub fn mode_window_probes(mode: u8) -> usize
 }
 
 // P: the flags of a whole picture, at `find_sync`'s starting rate.
+#[tactic(auto, unfolding(crate::specs::Sizes::image_probes, crate::specs::Literals::of_bits))]
 pub fn image_probes(spec: ModeSpec, initial_rate_hz: f64) -> usize
     ensures { result ≡ Sizes.image_probes spec initial_rate_hz }
 {
@@ -357,32 +417,33 @@ pub fn image_probes(spec: ModeSpec, initial_rate_hz: f64) -> usize
 }
 
 // W: the columns that a line is drawn on, four to a sync pulse.
+#[tactic(auto, unfolding(crate::specs::Sizes::line_width, crate::specs::Literals::of_bits))]
 pub fn line_width(spec: ModeSpec) -> usize
     ensures { result ≡ Sizes.line_width spec }
 {
     let width: usize = ieee::to_u64((spec.line_seconds / spec.sync_seconds) * 4.0) as usize;
-    limits::max(1, width)
+    width.max(1)
 }
 
 // Columns that a sync pulse spans among n columns of a line: at least 1, and at most n where n is not 0.
+#[tactic(auto, unfolding(crate::specs::Sizes::pulse_columns, crate::specs::Literals::of_bits))]
 pub fn pulse_columns(spec: ModeSpec, n: usize) -> usize
     ensures { result ≡ Sizes.pulse_columns spec n }
 {
     let share: f64 = (spec.sync_seconds / spec.line_seconds)
         * std::num::nearest_u64_to_f64(n as u64);
-    let most: f64 = std::num::nearest_u64_to_f64(limits::max(n, 1) as u64);
+    let most: f64 = std::num::nearest_u64_to_f64(n.max(1) as u64);
     ieee::to_u64(ieee::clamp(ieee::round(share), 1.0, most)) as usize
 }
 
 // `pulse_columns` for a mode's number. Refuses a mode above 15 with 1, and n above 65,536 with 9.
-pub fn sync_pulse_columns(mode: u8, n: usize) -> Columns
+#[tactic(auto, unfolding(crate::specs::Calls::columns_of))]
+pub fn sync_pulse_columns(mode: u8, n: usize) -> Result<usize, Refusal>
     ensures { result ≡ columns_of mode n }
 {
-    if mode > 15 {
-        return Columns::Refused(1);
-    }
+    let mode = Mode::try_from(mode)?;
     if n > 65_536 {
-        return Columns::Refused(9);
+        return Err(Refusal::Count);
     }
-    Columns::Count(pulse_columns(for_mode(mode), n))
+    Ok(pulse_columns(mode.spec(), n))
 }

@@ -1,7 +1,7 @@
 -- Laws of the plain session and its lists of calls; the second theorem of demand 3; what the definitions rule out.
 pub mod Laws
 pub mod Sizes
-pub mod Codes
+pub mod Refusals
 pub mod Lists
 pub mod TwoLists
 pub mod Sanity

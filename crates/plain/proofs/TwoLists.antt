@@ -1,7 +1,7 @@
 -- Demand 3, second theorem, on plain sessions: the flags taken and the parity samples that evaluations read decide the point,
 -- whatever the anchors, cuts, refused calls and other samples.
 -- Assumes nothing.
-use mathlib.Core.Path.{◌≡◌, refl, sym, ◌∙◌, ap, subst}
+use mathlib.Core.Path.{◌≡◌, sym, ◌∙◌, ap, subst}
 use mathlib.Core.Bool.{Bool, true, false, cond}
 use mathlib.Core.List.Memᴰ
 use mathlib.Core.List.{List, [], ◌∷◌, ◌++◌, append_assoc, Memᴰ}
@@ -9,19 +9,18 @@ use Prim.Native.Nat.{ℕ, suc, ◌+◌, ◌-◌, ◌*◌, ◌/◌, ◌≤◌, �
 use native.Mathlib.Omega.{arith}
 use lib.ListN.{length, take, drop, get_or, length-append, take-append-drop, get_or-append}
 use lib.Seq.{length-take-le}
-use lib.Dec.{eqb}
 use lib.IntN.{pos}
 use lib.Ieee.{Float, fin}
-use Rattle.sync_start.specs.declared.Evaluation.{Evaluation}
+use Rattle.std.proofs.lemmas.Bool.{cond_both}
 use Rattle.sync_start.specs.Evaluate.{evaluation_of, parity_reads}
 use Rattle.sync_start.proofs.Evaluations.{parity_only, reads_known}
 use Rattle.plain.specs.declared.Phase.{Phase}
-use Rattle.plain.specs.declared.Phase.TheVariants.{Searching, Collecting, Reported, Unfound, CutShort}
-use Rattle.plain.specs.Plain.{Setup, Plain, window_of, ended_phase, due_at, evaluating, evaluating_by, evaluated_by, evaluation_at, reporting, reporting_by, reported, full_at, ending, with_phase, end_of, events, joined, step, through, opened}
+use Rattle.plain.specs.declared.Phase.TheVariants.{Searching}
+use Rattle.plain.specs.Plain.{Setup, Plain, window_of, ended_phase, due_at, evaluating, evaluation_at, reporting, ending, events, joined, step, through, opened}
 use Rattle.plain.specs.Point.{Stage, point_of, point_less, stage_of, stage_less, FromAnchor}
 use Rattle.plain.specs.Calls.{Call, run_to}
 use Rattle.plain.specs.Lists.{accepted_flags, accepted_samples, to_the_end, flags_taken, reads_by, reads_of, list_reads}
-use Rattle.plain.proofs.Laws.{four_left, through_cons, through_ended, through_nil}
+use Rattle.plain.proofs.Laws.{by_test, four_left, through_cons, through_ended, through_nil}
 use Rattle.plain.proofs.Lists.{step_live, step_flags, step_samples, run_through, accepted_four, through_samples, samples_to, through_end, reads_cons, reads_end, list_reads_lem, run_setup}
 
 abbrev pub silence : Float
@@ -39,51 +38,16 @@ varied a ss p =
       phase = p.phase;
     }
 
-cond_varied : (a : ℕ) (ss : List Float) (b : Bool) (x y : Plain) → cond b (varied a ss x) (varied a ss y) ≡ varied a ss (cond b x y)
-cond_varied a ss true x y = refl
-cond_varied a ss false x y = refl
-
--- ---- events
-
-due_varied : (a : ℕ) (ss : List Float) (p : Plain) (b : Bool) → (b ≡ true → evaluation_at (varied a ss p) ≡ evaluation_at p)
-    → cond b (evaluated_by (varied a ss p) (evaluation_at (varied a ss p))) (varied a ss p) ≡ varied a ss (cond b (evaluated_by p (evaluation_at p)) p)
-due_varied a ss p true h = ap (λ (e : Evaluation). evaluated_by (varied a ss p) e) (h refl)
-due_varied a ss p false h = refl
-
 -- the two sessions make the same evaluation, if one is due
 abbrev Agrees : Phase → List Float → Plain → Type 0
 Agrees Searching ss p =
     due_at p.setup.mode (length p.flags) ≡ true
     → evaluation_of p.setup.mode ((length p.flags - window_of p.setup.mode) / 64) p.flags ss p.streak ≡ evaluation_at p
-Agrees (Collecting s) ss p = Unit
-Agrees (Reported s r) ss p = Unit
-Agrees Unfound ss p = Unit
-Agrees (CutShort s) ss p = Unit
-
-evaluating_varied : (a : ℕ) (ss : List Float) (h : Phase) (p : Plain) → Agrees h ss p → evaluating_by h (varied a ss p) ≡ varied a ss (evaluating_by h p)
-evaluating_varied a ss Searching p e = due_varied a ss p (due_at p.setup.mode (length p.flags)) e
-evaluating_varied a ss (Collecting s) p e = refl
-evaluating_varied a ss (Reported s r) p e = refl
-evaluating_varied a ss Unfound p e = refl
-evaluating_varied a ss (CutShort s) p e = refl
-
-reporting_varied : (a : ℕ) (ss : List Float) (h : Phase) (p : Plain) → reporting_by h (varied a ss p) ≡ varied a ss (reporting_by h p)
-reporting_varied a ss Searching p = refl
-reporting_varied a ss (Collecting s) p = cond_varied a ss (eqb (length p.flags) (full_at p.setup.mode s)) (reported p s) p
-reporting_varied a ss (Reported s r) p = refl
-reporting_varied a ss Unfound p = refl
-reporting_varied a ss (CutShort s) p = refl
-
-ending_varied : (a : ℕ) (ss : List Float) (p : Plain) → ending (varied a ss p) ≡ varied a ss (ending p)
-unfolding ending
-ending_varied a ss p = cond_varied a ss (eqb (length p.flags) p.setup.capacity) (with_phase p (end_of p.phase)) p
+Agrees _ ss p = Unit
 
 events_varied : (a : ℕ) (ss : List Float) (p : Plain) → Agrees p.phase ss p → events (varied a ss p) ≡ varied a ss (events p)
-unfolding evaluating reporting
-events_varied a ss p e =
-    ap (λ (z : Plain). ending (reporting z)) (evaluating_varied a ss p.phase p e)
-    ∙ ap ending (reporting_varied a ss (evaluating p).phase (evaluating p))
-    ∙ ending_varied a ss (reporting (evaluating p))
+unfolding evaluating reporting ending
+events_varied a ss p e = grind arith
 
 -- ---- one flag
 
@@ -97,10 +61,7 @@ agree_due Searching p ss hp hs same = λ due.
     ap (λ (b : Bool). cond b (parity_reads p.setup.mode j p.flags p.streak) []) due in
     parity_only p.setup.mode j p.flags ss p.samples p.streak hs hp
     (λ n m. sym (same n (subst (λ (l : List ℕ). Memᴰ n l) (sym reads) m) (reads_known p.setup.mode j p.flags p.streak n m)))
-agree_due (Collecting s) p ss hp hs same = tt
-agree_due (Reported s r) p ss hp hs same = tt
-agree_due Unfound p ss hp hs same = tt
-agree_due (CutShort s) p ss hp hs same = tt
+agree_due _ p ss hp hs same = tt
 
 -- ---- a piece
 
@@ -125,53 +86,42 @@ pub agree : (a : ℕ) (p : Plain) (ss : List Float) (xs : List ℕ) (ys zs : Lis
     → length ys ≡ 4 * length xs → length zs ≡ 4 * length xs
     → ((n : ℕ) → Memᴰ n (reads_of p xs ys) → get_or (p.samples ++ ys) n silence ≡ get_or (ss ++ zs) n silence)
     → Varied a (through (varied a ss p) xs zs) (through p xs ys)
-agree a p ss [] ys zs hp hs hy hz same =
-    record { samples = ss; same = through_nil (varied a ss p) zs ∙ ap (varied a ss) (sym (through_nil p ys)) }
+agree a p ss [] ys zs hp hs hy hz same = record { samples = ss; same = through_nil (varied a ss p) zs ∙ ap (varied a ss) (sym (through_nil p ys)) }
 agree a p ss (x ∷ xs) ys zs hp hs hy hz same =
-    go
-    (λ h1 h2 later. agree a (step p x (take 4 ys)) (ss ++ take 4 zs) xs (drop 4 ys) (drop 4 zs) h1 h2 (four_left (length xs) ys hy) (four_left (length xs) zs hz) later)
-    (ended_phase p.phase) refl
-  where
-    go : (length (step p x (take 4 ys)).samples ≡ 4 * length (step p x (take 4 ys)).flags + 4
-        → length (ss ++ take 4 zs) ≡ 4 * length (step p x (take 4 ys)).flags + 4
-        → ((n : ℕ) → Memᴰ n (reads_of (step p x (take 4 ys)) xs (drop 4 ys))
-        → get_or ((step p x (take 4 ys)).samples ++ drop 4 ys) n silence ≡ get_or ((ss ++ take 4 zs) ++ drop 4 zs) n silence)
-        → Varied a (through (varied a (ss ++ take 4 zs) (step p x (take 4 ys))) xs (drop 4 zs)) (through (step p x (take 4 ys)) xs (drop 4 ys)))
-        → (b : Bool) → ended_phase p.phase ≡ b → Varied a (through (varied a ss p) (x ∷ xs) zs) (through p (x ∷ xs) ys)
-    go below true e =
-        record { samples = ss; same = through_ended (varied a ss p) (x ∷ xs) zs e ∙ ap (varied a ss) (sym (through_ended p (x ∷ xs) ys e)) }
-    go below false e =
-        let j : Plain = joined p (x ∷ []) (take 4 ys) in
-        let hj : length (p.samples ++ take 4 ys) ≡ 4 * length (p.flags ++ (x ∷ [])) + 4 = grown_length p.samples ys p.flags x (length xs) hp hy in
-        let ht : length (ss ++ take 4 zs) ≡ 4 * length (p.flags ++ (x ∷ [])) + 4 = grown_length ss zs p.flags x (length xs) hs hz in
-        let split : reads_of p (x ∷ xs) ys ≡ reads_by p.phase j ++ reads_of (step p x (take 4 ys)) xs (drop 4 ys) = reads_cons p x xs ys e in
-        let now : (n : ℕ) → Memᴰ n (reads_by p.phase j) → n < 4 * length (p.flags ++ (x ∷ [])) + 4 → get_or (p.samples ++ take 4 ys) n silence ≡ get_or (ss ++ take 4 zs) n silence =
-        λ n m small.
-        early p.samples ys n (rw hj small)
-        ∙ same n (subst (λ (l : List ℕ). Memᴰ n l) (sym split) (Memᴰ.append_left (reads_of (step p x (take 4 ys)) xs (drop 4 ys)) m))
-        ∙ sym (early ss zs n (rw ht small)) in
-        let one : step (varied a ss p) x (take 4 zs) ≡ varied a (ss ++ take 4 zs) (step p x (take 4 ys)) =
-        step_live (varied a ss p) x (take 4 zs) e
-        ∙ events_varied a (ss ++ take 4 zs) j (agree_due p.phase j (ss ++ take 4 zs) hj ht now)
-        ∙ ap (varied a (ss ++ take 4 zs)) (sym (step_live p x (take 4 ys) e)) in
-        let q : Plain = step p x (take 4 ys) in
-        let qf : q.flags ≡ p.flags ++ (x ∷ []) = step_flags p x (take 4 ys) e in
-        let qs : q.samples ≡ p.samples ++ take 4 ys = step_samples p x (take 4 ys) e in
-        let later : (n : ℕ) → Memᴰ n (reads_of q xs (drop 4 ys)) → get_or (q.samples ++ drop 4 ys) n silence ≡ get_or ((ss ++ take 4 zs) ++ drop 4 zs) n silence =
-        λ n m.
-        ap (λ (l : List Float). get_or l n silence) (ap (λ (l : List Float). l ++ drop 4 ys) qs ∙ join_four p.samples ys)
-        ∙ same n (subst (λ (l : List ℕ). Memᴰ n l) (sym split) (Memᴰ.append_right (reads_by p.phase j) m))
-        ∙ ap (λ (l : List Float). get_or l n silence) (sym (join_four ss zs)) in
-        let rest : Varied a (through (varied a (ss ++ take 4 zs) q) xs (drop 4 zs)) (through q xs (drop 4 ys)) =
-        below (rw (qs, qf) hj) (rw qf ht) later in
-        record {
-          samples = rest.samples;
-          same =
-              through_cons (varied a ss p) x xs zs
-              ∙ ap (λ (z : Plain). through z xs (drop 4 zs)) one
-              ∙ rest.same
-              ∙ ap (varied a rest.samples) (sym (through_cons p x xs ys));
-        }
+    let q : Plain = step p x (take 4 ys) in
+    by_test (ended_phase p.phase)
+    (λ e. record { samples = ss; same = through_ended (varied a ss p) (x ∷ xs) zs e ∙ ap (varied a ss) (sym (through_ended p (x ∷ xs) ys e)) })
+    (λ e.
+    let j : Plain = joined p (x ∷ []) (take 4 ys) in
+    let hj : length (p.samples ++ take 4 ys) ≡ 4 * length (p.flags ++ (x ∷ [])) + 4 = grown_length p.samples ys p.flags x (length xs) hp hy in
+    let ht : length (ss ++ take 4 zs) ≡ 4 * length (p.flags ++ (x ∷ [])) + 4 = grown_length ss zs p.flags x (length xs) hs hz in
+    let split : reads_of p (x ∷ xs) ys ≡ reads_by p.phase j ++ reads_of q xs (drop 4 ys) = reads_cons p x xs ys e in
+    let now : (n : ℕ) → Memᴰ n (reads_by p.phase j) → n < 4 * length (p.flags ++ (x ∷ [])) + 4 → get_or (p.samples ++ take 4 ys) n silence ≡ get_or (ss ++ take 4 zs) n silence =
+    λ n m small.
+    early p.samples ys n (rw hj small)
+    ∙ same n (rw split (Memᴰ.append_left (reads_of q xs (drop 4 ys)) m))
+    ∙ sym (early ss zs n (rw ht small)) in
+    let one : step (varied a ss p) x (take 4 zs) ≡ varied a (ss ++ take 4 zs) q =
+    step_live (varied a ss p) x (take 4 zs) e
+    ∙ events_varied a (ss ++ take 4 zs) j (agree_due p.phase j (ss ++ take 4 zs) hj ht now)
+    ∙ ap (varied a (ss ++ take 4 zs)) (sym (step_live p x (take 4 ys) e)) in
+    let qf : q.flags ≡ p.flags ++ (x ∷ []) = step_flags p x (take 4 ys) e in
+    let qs : q.samples ≡ p.samples ++ take 4 ys = step_samples p x (take 4 ys) e in
+    let later : (n : ℕ) → Memᴰ n (reads_of q xs (drop 4 ys)) → get_or (q.samples ++ drop 4 ys) n silence ≡ get_or ((ss ++ take 4 zs) ++ drop 4 zs) n silence =
+    λ n m.
+    ap (λ (l : List Float). get_or l n silence) (ap (λ (l : List Float). l ++ drop 4 ys) qs ∙ join_four p.samples ys)
+    ∙ same n (rw split (Memᴰ.append_right (reads_by p.phase j) m))
+    ∙ ap (λ (l : List Float). get_or l n silence) (sym (join_four ss zs)) in
+    let rest : Varied a (through (varied a (ss ++ take 4 zs) q) xs (drop 4 zs)) (through q xs (drop 4 ys)) =
+    agree a q (ss ++ take 4 zs) xs (drop 4 ys) (drop 4 zs) (rw (qs, qf) hj) (rw qf ht) (four_left (length xs) ys hy) (four_left (length xs) zs hz) later in
+    record {
+      samples = rest.samples;
+      same =
+          through_cons (varied a ss p) x xs zs
+          ∙ ap (λ (z : Plain). through z xs (drop 4 zs)) one
+          ∙ rest.same
+          ∙ ap (varied a rest.samples) (sym (through_cons p x xs ys));
+    })
 
 -- ---- a list
 
@@ -182,11 +132,10 @@ one_piece p cs = run_through p cs ∙ sym (through_end p (accepted_flags p cs) (
 end_short : (p : Plain) (xs : List ℕ) (ys : List Float) → length (to_the_end p xs ys) ≤ length xs
 unfolding to_the_end
 end_short p [] ys = omega arith
-end_short p (x ∷ xs) ys = go (end_short (step p x (take 4 ys)) xs (drop 4 ys)) (ended_phase p.phase)
-  where
-    go : length (to_the_end (step p x (take 4 ys)) xs (drop 4 ys)) ≤ length xs → (b : Bool) → length (cond b [] (x ∷ to_the_end (step p x (take 4 ys)) xs (drop 4 ys))) ≤ suc (length xs)
-    go h true = omega arith
-    go h false = omega arith
+end_short p (x ∷ xs) ys =
+    let q : Plain = step p x (take 4 ys) in
+    let h = end_short q xs (drop 4 ys) in
+    cond_both (ended_phase p.phase) [] (x ∷ to_the_end q xs (drop 4 ys)) (λ (l : List ℕ). length l ≤ suc (length xs)) (λ e. omega arith) (λ e. omega arith)
 
 taken_four : (p : Plain) (cs : List Call) → length (samples_to p (accepted_flags p cs) (accepted_samples p cs)) ≡ 4 * length (flags_taken p cs)
 taken_four p cs =
@@ -194,28 +143,15 @@ taken_four p cs =
     let short = end_short p (accepted_flags p cs) (accepted_samples p cs) in
     length-take-le (4 * length (flags_taken p cs)) (accepted_samples p cs) (omega arith)
 
-back : (a x : ℕ) → a + x - a ≡ x
-back a x = omega arith
-
 stage_less_lem : (a b : ℕ) (h : Phase) → stage_less a (stage_of a h) ≡ stage_less b (stage_of b h)
-stage_less_lem a b Searching = refl
-stage_less_lem a b (Collecting s) = rw (back a s.position, back b s.position)
-stage_less_lem a b (Reported s r) = rw (back a s.position, back b s.position)
-stage_less_lem a b Unfound = refl
-stage_less_lem a b (CutShort s) = rw (back a s.position, back b s.position)
+stage_less_lem a b h = grind arith
 
 from_anchor : (a : ℕ) (h : Phase) → FromAnchor a (stage_of a h)
-from_anchor a Searching = tt
-from_anchor a (Collecting s) = omega arith
-from_anchor a (Reported s r) = omega arith
-from_anchor a Unfound = tt
-from_anchor a (CutShort s) = omega arith
+from_anchor a h = grind arith
 
 -- a start is not before the anchor, so that the difference below is cut nowhere
 pub starts_from : (u : Setup) (first : List Float) (cs : List Call) → FromAnchor u.anchor (point_of (run_to (opened u first) cs)).stage
-starts_from u first cs =
-    let q : Plain = run_to (opened u first) cs in
-    subst (λ (v : Setup). FromAnchor u.anchor (stage_of v.anchor q.phase)) (sym (run_setup (opened u first) cs)) (from_anchor u.anchor q.phase)
+starts_from u first cs = rw (run_setup (opened u first) cs) (from_anchor u.anchor (run_to (opened u first) cs).phase)
 
 -- Two lists of one mode and store length, with the same flags taken, where each sample that an evaluation of the first reads for
 -- parity has the same value under its number in the second: same phase, flags taken, evaluations, qualities, rate, slant and skip,

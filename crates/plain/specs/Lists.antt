@@ -1,24 +1,25 @@
 -- The flags taken of a list of calls, and the samples that its evaluations read for parity
 -- (01-scope.md, "The plain session of demand 3", "Start search"). Definitions only.
-use Rattle.std.specs.Prelude.{ℕ, ◌+◌, ◌-◌, ◌/◌, Bool, true, false, cond, List, [], ◌∷◌, ◌++◌, length, take, drop, eqb, leb, Float}
+use Rattle.std.specs.Prelude.{ℕ, ◌+◌, ◌-◌, ◌/◌, Bool, true, false, cond, List, [], ◌∷◌, ◌++◌, length, take, drop, leb, Float}
+use Rattle.limits.specs.Refusals.{is_allowed}
 use Rattle.sync_start.specs.Evaluate.{parity_reads}
 use Rattle.plain.specs.declared.Phase.{Phase}
 use Rattle.plain.specs.declared.Phase.TheVariants.{Searching, Collecting, Reported, Unfound, CutShort}
 use Rattle.plain.specs.Plain.{Plain, window_of, ended_phase, due_at, joined, step}
-use Rattle.plain.specs.Calls.{Call, feed, read, feed_code, after}
+use Rattle.plain.specs.Calls.{Call, feed, read, feed_refusal, after}
 
 -- ---- the flags taken: the pieces of the feeds that were not refused, joined, up to the end that the session reaches
 
 unfoldable pub accepted_flags : Plain → List Call → List ℕ
 accepted_flags p [] = []
 accepted_flags p (feed memory flags samples ∷ cs) =
-    cond (eqb (feed_code p.setup p.phase memory flags samples) 0) flags [] ++ accepted_flags (after p (feed memory flags samples)) cs
+    cond (is_allowed (feed_refusal p.setup p.phase memory flags samples)) flags [] ++ accepted_flags (after p (feed memory flags samples)) cs
 accepted_flags p (read ∷ cs) = accepted_flags p cs
 
 unfoldable pub accepted_samples : Plain → List Call → List Float
 accepted_samples p [] = []
 accepted_samples p (feed memory flags samples ∷ cs) =
-    cond (eqb (feed_code p.setup p.phase memory flags samples) 0) samples [] ++ accepted_samples (after p (feed memory flags samples)) cs
+    cond (is_allowed (feed_refusal p.setup p.phase memory flags samples)) samples [] ++ accepted_samples (after p (feed memory flags samples)) cs
 accepted_samples p (read ∷ cs) = accepted_samples p cs
 
 unfoldable pub to_the_end : Plain → List ℕ → List Float → List ℕ
@@ -54,7 +55,7 @@ unfoldable pub list_reads : Plain → List Call → List ℕ
 unfolding reads_of
 list_reads p [] = []
 list_reads p (feed memory flags samples ∷ cs) =
-    cond (eqb (feed_code p.setup p.phase memory flags samples) 0) (reads_of p flags samples) [] ++ list_reads (after p (feed memory flags samples)) cs
+    cond (is_allowed (feed_refusal p.setup p.phase memory flags samples)) (reads_of p flags samples) [] ++ list_reads (after p (feed memory flags samples)) cs
 list_reads p (read ∷ cs) = list_reads p cs
 
 -- ---- the flags searched, and the evaluations owed to them

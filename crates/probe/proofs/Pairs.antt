@@ -1,22 +1,16 @@
 -- Laws of a buffer that is filled with pairs from the front, and of the samples that go into it. Assumes nothing.
 use mathlib.Core.Path.{◌≡◌, refl, ap, sym, ◌∙◌}
 use mathlib.Core.List.{List, [], ◌∷◌, ◌++◌, append_assoc}
-use Prim.Native.Nat.{ℕ, zero, suc, ◌+◌, ◌-◌, ◌*◌, ◌≤◌, ◌<◌}
+use Prim.Native.Nat.{ℕ, suc, ◌+◌, ◌-◌, ◌*◌, ◌≤◌, ◌<◌}
 use native.Mathlib.Numerals.{add-one}
-use native.Mathlib.Nat.{not-suc-le-zero}
 use native.Mathlib.Omega.{arith}
 use lib.ListN.{length, take, get_or, set, length-set, get_or-eq_default}
 use lib.Seq.{take-suc-set, take_all}
 use lib.Ieee.{Float, nan, binary32, mul}
 use borrow.Author.Tests.{lt-ltb, le-ltb}
+use Rattle.std.proofs.lemmas.List.{get_or_default}
 use Rattle.dsp.specs.Spectrum.{hann, hann_bits}
 use Rattle.probe.specs.Window.{nothing, sound_at, real_at, pairs_of, window_of}
-
--- what stands in a list does not turn on what is read past its end
-pub get_d_within : (l : List Float) (i : ℕ) (d e : Float) → i < length l → get_or l i d ≡ get_or l i e
-get_d_within [] i d e h = absurd (not-suc-le-zero h)
-get_d_within (x ∷ l) zero d e h = refl
-get_d_within (x ∷ l) (suc i) d e h = get_d_within l i d e (omega arith)
 
 -- ---- the samples
 
@@ -31,7 +25,7 @@ module _ (sound : List Float) (centre i : ℕ) where
 
   pub sound_in : 8 ≤ centre + i → centre + i - 8 < length sound → get_or sound (centre + i - 8) nan ≡ sound_at sound centre i
   unfolding sound_at
-  sound_in h l = rw (le-ltb (centre + i) 8 h) (get_d_within sound (centre + i - 8) nan _ l)
+  sound_in h l = rw (le-ltb (centre + i) 8 h) (get_or_default sound (centre + i - 8) nan _ l)
 
   pub sound_after : 8 ≤ centre + i → length sound ≤ centre + i - 8 → nothing ≡ sound_at sound centre i
   unfolding sound_at
@@ -39,7 +33,7 @@ module _ (sound : List Float) (centre i : ℕ) where
 
   pub real_in : (s : Float) (weights : List Float) → i < 16 → weights ≡ hann → s ≡ sound_at sound centre i → mul binary32 s (get_or weights i nan) ≡ real_at sound centre i
   unfolding real_at
-  real_in s weights h w e = rw (lt-ltb i 16 h, w, e) (ap (mul binary32 (sound_at sound centre i)) (get_d_within hann i nan nothing (rw sixteen h)))
+  real_in s weights h w e = rw (lt-ltb i 16 h, w, e) (ap (mul binary32 (sound_at sound centre i)) (get_or_default hann i nan nothing (rw sixteen h)))
 
   pub real_beyond : 16 ≤ i → nothing ≡ real_at sound centre i
   unfolding real_at

@@ -5,19 +5,19 @@ use Prim.Native.Nat.{ℕ, suc, ◌+◌, ◌-◌, ◌*◌, ◌≤◌, ◌<◌, ma
 use native.Mathlib.Omega.{arith}
 use lib.ListN.{length, get_or}
 use lib.Ieee.{Float, nan, binary64, add, sub, mul, div, neg, lt, of_int}
+use Rattle.std.proofs.lemmas.List.{get_or_default}
 use borrow.Author.Tests.{le-leb, lt-leb}
 use Rattle.ieee.specs.Numbers.{of_nat, decimal}
 use Rattle.dsp.specs.Spectrum.{power_of}
 use Rattle.probe.specs.Window.{nothing}
 use Rattle.probe.specs.Decision.{low_bin, high_bin, sync_bin, bin_power, powers_of, mean_of, weight, plus_bin, triangle_of, has_sync}
-use Rattle.probe.proofs.Pairs.{get_d_within}
 
 pub bin_is : (s : List Float) (k : ℕ) → 2 * k + 1 < length s → power_of (get_or s (2 * k) nan) (get_or s (2 * k + 1) nan) ≡ bin_power s k
 unfolding bin_power
 bin_is s k h =
     let l : 2 * k < length s = omega arith in
-    let a : get_or s (2 * k) nan ≡ get_or s (2 * k) nothing = get_d_within s (2 * k) nan nothing l in
-    let b : get_or s (2 * k + 1) nan ≡ get_or s (2 * k + 1) nothing = get_d_within s (2 * k + 1) nan nothing h in
+    let a : get_or s (2 * k) nan ≡ get_or s (2 * k) nothing = get_or_default s (2 * k) nan nothing l in
+    let b : get_or s (2 * k + 1) nan ≡ get_or s (2 * k + 1) nothing = get_or_default s (2 * k + 1) nan nothing h in
     rw (a, b)
 
 pub powers_none : (s : List Float) (lo : ℕ) → nothing ≡ powers_of s lo (lo - lo)

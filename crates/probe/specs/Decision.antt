@@ -1,14 +1,14 @@
 -- Whether a spectrum shows the sync tone (01-scope.md, "Spectrum and probe"): `SyncTracker::new` and `has_sync_at` of sync.rs, in their float steps. Definitions only.
-use Rattle.std.specs.Prelude.{ℕ, zero, suc, ◌+◌, ◌-◌, ◌*◌, min, max, Bool, not, cond, List, [], ◌∷◌, length, get_or, leb, eqb, Float}
+use Rattle.std.specs.Prelude.{ℕ, zero, suc, ◌+◌, ◌-◌, ◌*◌, min, max, Bool, not, cond, List, [], ◌∷◌, length, get_or, leb, eqb, Result, Ok, Err, Float}
 use Rattle.std.specs.Float.{binary64}
 use Rattle.std.specs.Float.Ieee.{add, sub, mul, div, lt}
 use Rattle.ieee.specs.Numbers.{of_nat, decimal}
 use Rattle.dsp.specs.Spectrum.{power_of, bin_of}
+use Rattle.limits.specs.declared.Refusal.{Refusal}
+use Rattle.limits.specs.declared.Refusal.TheVariants as why
 use Rattle.limits.specs.Refusals.{◌⇒◌, first_of}
 use Rattle.probe.specs.Refusals.{all_of, is_finite, shift_allowed}
 use Rattle.probe.specs.Window.{nothing}
-use Rattle.probe.specs.declared.ProbeAnswer.{ProbeAnswer}
-use Rattle.probe.specs.declared.ProbeAnswer.TheVariants.{Yes, No, Refused}
 
 -- ---- the bins
 
@@ -60,14 +60,14 @@ has_sync spectrum shift =
 
 -- ---- the call
 
-unfoldable pub probe_refusal : List Float → Float → ℕ
+unfoldable pub probe_refusal : List Float → Float → Result Unit Refusal
 probe_refusal spectrum shift =
-    first_of ((not (shift_allowed shift) ⇒ 3) ∷ (not (eqb (length spectrum) 258) ⇒ 6) ∷ (not (all_of is_finite spectrum) ⇒ 8) ∷ [])
+    first_of ((not (shift_allowed shift) ⇒ why.Shift) ∷ (not (eqb (length spectrum) 258) ⇒ why.Length) ∷ (not (all_of is_finite spectrum) ⇒ why.Sample) ∷ [])
 
--- the answer for a refusal's number, where 0 is none, and a decision
-abbrev pub probe_by : ℕ → Bool → ProbeAnswer
-probe_by zero sync = cond sync Yes No
-probe_by (suc n) sync = Refused (suc n)
+-- the answer for a refusal or none, and a decision
+abbrev pub probe_by : Result Unit Refusal → Bool → Result Bool Refusal
+probe_by (Ok u) sync = Ok sync
+probe_by (Err e) sync = Err e
 
-unfoldable pub probe_answer : List Float → Float → ProbeAnswer
+unfoldable pub probe_answer : List Float → Float → Result Bool Refusal
 probe_answer spectrum shift = probe_by (probe_refusal spectrum shift) (has_sync spectrum shift)

@@ -1,12 +1,12 @@
 -- The numbers that a spectrum is made of (01-scope.md, "Spectrum and probe"): the first loop of `has_sync_at` in sync.rs. Definitions only.
-use Rattle.std.specs.Prelude.{◌≡◌, ℕ, zero, suc, ◌+◌, ◌-◌, ◌^◌, false, not, cond, List, [], ◌∷◌, ◌++◌, length, get_or, ltb, eqb, pos, Float}
+use Rattle.std.specs.Prelude.{◌≡◌, ℕ, zero, suc, ◌+◌, ◌-◌, ◌^◌, false, not, cond, List, [], ◌∷◌, ◌++◌, length, get_or, ltb, eqb, pos, Result, Ok, Err, Float}
 use Rattle.std.specs.Float.{fin, binary32}
 use Rattle.std.specs.Float.Ieee.{mul}
 use Rattle.dsp.specs.Spectrum.{hann}
+use Rattle.limits.specs.declared.Refusal.{Refusal}
+use Rattle.limits.specs.declared.Refusal.TheVariants as why
 use Rattle.limits.specs.Refusals.{◌⇒◌, first_of}
 use Rattle.limits.specs.Ranges.{any_unsound}
-use Rattle.probe.specs.declared.WindowAnswer.{WindowAnswer}
-use Rattle.probe.specs.declared.WindowAnswer.TheVariants.{Filled, Refused}
 
 -- 0.0
 abbrev pub nothing : Float
@@ -30,21 +30,16 @@ window_of sound centre = pairs_of (real_at sound centre) 256
 
 -- ---- the call
 
-unfoldable pub window_refusal : List Float → ℕ → List Float → ℕ
+unfoldable pub window_refusal : List Float → ℕ → List Float → Result Unit Refusal
 window_refusal sound centre buffer =
-    first_of ((ltb (2 ^ 62) centre ⇒ 4) ∷ (not (eqb (length buffer) 512) ⇒ 5) ∷ (any_unsound sound ⇒ 8) ∷ [])
-
--- the answer for a refusal's number, where 0 is none
-abbrev pub window_by : ℕ → WindowAnswer
-window_by zero = Filled
-window_by (suc n) = Refused (suc n)
+    first_of ((ltb (2 ^ 62) centre ⇒ why.Anchor) ∷ (not (eqb (length buffer) 512) ⇒ why.Memory) ∷ (any_unsound sound ⇒ why.Sample) ∷ [])
 
 -- what the buffer holds then: the window, and after a refusal what it held
-abbrev pub held_by : ℕ → List Float → List Float → List Float
-held_by zero window buffer = window
-held_by (suc n) window buffer = buffer
+abbrev pub held_by : Result Unit Refusal → List Float → List Float → List Float
+held_by (Ok u) window buffer = window
+held_by (Err e) window buffer = buffer
 
 -- the call's answer, and the buffer after it
-pub record Windowed (sound : List Float) (centre : ℕ) (buffer : List Float) (answer : WindowAnswer) (after : List Float) : Type 0 where
-  pub answered : answer ≡ window_by (window_refusal sound centre buffer)
+pub record Windowed (sound : List Float) (centre : ℕ) (buffer : List Float) (answer : Result Unit Refusal) (after : List Float) : Type 0 where
+  pub answered : answer ≡ window_refusal sound centre buffer
   pub held : after ≡ held_by (window_refusal sound centre buffer) (window_of sound centre) buffer

@@ -17,14 +17,6 @@ use Rattle.pulse.specs.declared.BestWindow.{BestWindow}
 use Rattle.pulse.specs.declared.FallingPlace.{FallingPlace}
 use Rattle.pulse.proofs.Sums.{window_below}
 
-pub largest_none : (f : ℕ → ℕ) → 0 ≡ largest f 0
-unfolding largest
-largest_none f = refl
-
-pub largest_more : (f : ℕ → ℕ) (n : ℕ) → largest f (n + 1) ≡ max (largest f n) (f n)
-unfolding largest
-largest_more f n = rw add-one
-
 largest_below : (f : ℕ → ℕ) (n v : ℕ) → ((k : ℕ) → k < n → f k ≤ v) → largest f n ≤ v
 unfolding largest
 largest_below f zero v h = omega arith

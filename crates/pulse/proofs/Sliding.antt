@@ -2,7 +2,7 @@
 use mathlib.Core.Path.{◌≡◌, refl, sym, ap, ◌∙◌}
 use mathlib.Core.Bool.{Bool, true, false, cond}
 use mathlib.Core.List.{List}
-use Prim.Native.Nat.{ℕ, suc, ◌+◌, ◌-◌, ◌*◌, ◌^◌, ◌≤◌, ◌<◌}
+use Prim.Native.Nat.{ℕ, zero, suc, ◌+◌, ◌-◌, ◌*◌, ◌^◌, ◌≤◌, ◌<◌}
 use native.Mathlib.Omega.{arith}
 use lib.Dec.{T, ltb, ltb→lt}
 use lib.IntN.{ℤ, pos, negsuc, ◌+ℤ◌, ◌-ℤ◌}
@@ -41,6 +41,15 @@ module _ (counts : List ℕ) (x : ℕ) where
           at : (t : Bool) → (T t → a < b) → not_negative (cond t (negsuc (b - suc a)) (pos (a - b))) ≡ a - b
           at true h = omega (arith, h tt)
           at false h = refl
+
+-- the step with the places as the code has them
+pub difference_step : (counts : List ℕ) (x : ℕ) → 1 ≤ x → difference_at counts x ≡ slid_by (difference_at counts (x - 1)) (get_or counts (x - 1) 0) (get_or counts (x + 3) 0) (get_or counts (x + 7) 0)
+difference_step counts zero l = absurd (omega arith)
+difference_step counts (suc x) l =
+    let i : suc x - 1 ≡ x = omega arith in
+    let j : suc x + 3 ≡ x + 4 = omega arith in
+    let k : suc x + 7 ≡ x + 8 = omega arith in
+    rw (i, j, k) (difference_next counts x)
 
 -- ---- its size
 

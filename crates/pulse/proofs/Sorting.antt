@@ -5,9 +5,7 @@ use mathlib.Core.Bool.{Bool, true, false, cond, not}
 use mathlib.Core.List.{List, [], ◌∷◌}
 use Prim.Native.Nat.{ℕ, zero, suc, ◌+◌, ◌/◌, ◌≤◌, ◌<◌}
 use native.Mathlib.Omega.{arith}
-use native.Mathlib.Numerals.{add-one}
-use lib.ListN.{length, get_or, drop, drop_of_length-le}
-use lib.Seq.{drop-cons}
+use lib.ListN.{length, get_or}
 use lib.Dec.{T, leb, leb→le, nleb→lt}
 use borrow.Author.Tests.{le-leb, lt-leb}
 use Rattle.pulse.specs.Median.{insert, sorted, median_of, count_at_most}
@@ -17,14 +15,6 @@ abbrev pub one : ℕ → ℕ → ℕ
 one v x = cond (leb x v) 1 0
 
 -- ---- counting
-
-pub count_step : (v : ℕ) (xs : List ℕ) (i : ℕ) → i < length xs → one v (get_or xs i 0) + count_at_most v (drop (i + 1) xs) ≡ count_at_most v (drop i xs)
-unfolding count_at_most
-count_step v xs i l = rw (add-one, drop-cons xs i 0 l)
-
-pub count_end : (v : ℕ) (xs : List ℕ) (i : ℕ) → length xs ≤ i → count_at_most v (drop i xs) ≡ 0
-unfolding count_at_most
-count_end v xs i l = rw (drop_of_length-le xs l)
 
 one_mono : (v w x : ℕ) → v ≤ w → one v x ≤ one w x
 one_mono v w x h = go (leb x v) (leb→le x v)

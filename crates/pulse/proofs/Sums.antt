@@ -5,7 +5,11 @@ use Prim.Native.Nat.{ℕ, zero, suc, ◌+◌, ◌-◌, ◌*◌, ◌%◌, ◌^◌
 use native.Mathlib.Nat.{mod-eq_of_lt, mod-eq-sub-mod}
 use native.Mathlib.Numerals.{add-one}
 use native.Mathlib.Omega.{arith}
-use lib.ListN.{length, get_or}
+use lib.ListN.{length, get_or, take, drop, length-drop}
+use lib.Seq.{take-suc}
+use Rattle.std.specs.List.{sum}
+use Rattle.std.proofs.lemmas.List.{get_or-drop}
+use Rattle.std.proofs.lemmas.List.Sums.{sum_by_push}
 use Rattle.pulse.specs.Sums.{sum_from}
 use Rattle.pulse.specs.PulseWindow.{ring_at, window_sum}
 
@@ -43,6 +47,15 @@ pub sum_below : (f : ℕ → ℕ) (m s n : ℕ) → ((k : ℕ) → f k ≤ m) �
 unfolding sum_from
 sum_below f m s zero h = omega arith
 sum_below f m s (suc n) h = omega (arith, sum_below f m s n h, h (s + n))
+
+-- the sum of a part of a list
+pub sum_taken : (xs : List ℕ) (s n : ℕ) → s + n ≤ length xs → sum (take n (drop s xs)) ≡ sum_from (λ k. get_or xs k 0) s n
+unfolding sum_from
+sum_taken xs s zero h = refl
+sum_taken xs s (suc n) h =
+    let l : n < length (drop s xs) = rw length-drop (omega arith) in
+    rw (take-suc (drop s xs) n 0 l, get_or-drop)
+    (sum_by_push (λ x. x) (take n (drop s xs)) (get_or xs (s + n) 0) ∙ ap (λ (k : ℕ). k + get_or xs (s + n) 0) (sum_taken xs s n (omega arith)))
 
 -- ---- the ring
 

@@ -1,9 +1,9 @@
 -- The falling edge (01-scope.md, "Fold and pulse window", `falling_edge_from_x_acc`). Definitions only.
-use Rattle.std.specs.Prelude.{ℕ, ◌+◌, ◌-◌, cond, ◌&&◌, List, length, get_or, ltb, eqb}
+use Rattle.std.specs.Prelude.{ℕ, ◌+◌, ◌-◌, cond, ◌&&◌, List, length, get_or, ltb, eqb, Result, Ok, Err}
 use Rattle.pulse.specs.Sums.{sum_from, largest, first_with}
 use Rattle.limits.specs.Ranges.{all_at_most}
-use Rattle.pulse.specs.declared.EdgeAnswer.{EdgeAnswer}
-use Rattle.pulse.specs.declared.EdgeAnswer.TheVariants.{Column, Refused}
+use Rattle.limits.specs.declared.Refusal.{Refusal}
+use Rattle.limits.specs.declared.Refusal.TheVariants as why
 
 -- four counts, from x on
 abbrev pub four_from : List ℕ → ℕ → ℕ
@@ -25,6 +25,6 @@ edge_of counts =
     cond (eqb top 0) 0 (slipped (first_with (fall_at counts) top 0 692 + 4))
 
 -- the answer of the call: 9 unless there are 700 counts, each at most 1,000,000
-unfoldable pub edge_answer : List ℕ → EdgeAnswer
+unfoldable pub edge_answer : List ℕ → Result ℕ Refusal
 unfolding edge_of all_at_most
-edge_answer counts = cond (eqb (length counts) 700 && all_at_most 1000000 counts) (Column (edge_of counts)) (Refused 9)
+edge_answer counts = cond (eqb (length counts) 700 && all_at_most 1000000 counts) (Ok (edge_of counts)) (Err why.Count)

@@ -2,19 +2,19 @@
 // From slowrx.rs's sync.rs.
 #![tactic(auto)]
 
-ghost use Rattle.std.specs.Prelude.{◌≡◌, ◌+◌, ◌-◌, ◌*◌, ◌/◌, ◌%◌, ◌≤◌, ◌<◌, ◌^◌, max, cond, leb, length, get_or};
+ghost use Rattle.std.specs.Prelude.{◌≡◌, ◌+◌, ◌-◌, ◌%◌, ◌≤◌, ◌<◌, ◌^◌, length, sum};
 ghost use Rattle.std.specs.Int.Signed.{mag};
-ghost use Rattle.pulse.specs.Sums.{sum_from, largest, FirstLargest};
-ghost use Rattle.pulse.specs.PulseWindow.{window_sum, best_window, window_answer};
+ghost use Rattle.pulse.specs.Sums.{FirstLargest};
+ghost use Rattle.pulse.specs.PulseWindow.{best_window, window_answer};
 ghost use Rattle.pulse.specs.Edge.{fall_at, slipped, edge_of, edge_answer};
 ghost use Rattle.pulse.specs.Steps.{better_of, steeper_of};
 ghost use Rattle.pulse.specs.Sliding.{difference_at, slid_by, not_negative};
 ghost use Rattle.pulse.specs.Median.{median_of, count_at_most};
 ghost use Rattle.pulse.specs.Quality.{PulseFits, quality_by, quality_of, quality_answer};
-ghost use Rattle.limits.specs.Ranges.{all_at_most};
-ghost use Rattle.modespec.specs.Sizes.{pulse_columns};
 
-use modespec::ModeSpec;
+use limits::Refusal;
+use modespec::{Mode, ModeSpec};
+use std::cmp::Ordering;
 
 // The first of the windows with the largest sum, that sum, and how many windows have it.
 #[derive(Clone, Copy)]
@@ -24,6 +24,27 @@ pub struct BestWindow {
     pub windows: usize,
 }
 
+impl BestWindow {
+    // With the window at `start`: it is the only one where its sum is larger than the best before it, and one more where it is the same.
+    fn better(self, start: usize, sum: u64) -> BestWindow
+        requires { self.windows ≤ 65536 }
+        ensures { result ≡ better_of self start sum }
+    {
+        match sum.cmp(&self.sum) {
+            Ordering::Greater => BestWindow {
+                start,
+                sum,
+                windows: 1,
+            },
+            Ordering::Equal => BestWindow {
+                windows: self.windows + 1,
+                ..self
+            },
+            Ordering::Less => self,
+        }
+    }
+}
+
 // The first of the places with the largest fall, and that fall.
 #[derive(Clone, Copy)]
 pub struct FallingPlace {
@@ -31,41 +52,27 @@ pub struct FallingPlace {
     pub fall: u64,
 }
 
-// The answer of `best_pulse_window`.
-#[derive(Clone, Copy)]
-pub enum WindowAnswer {
-    Found(BestWindow),
-    Refused(u8),
-}
-
-// The answer of `sync_quality`.
-#[derive(Clone, Copy)]
-pub enum QualityAnswer {
-    Quality(f32),
-    Refused(u8),
-}
-
-// The answer of `falling_edge_from_x_acc`.
-#[derive(Clone, Copy)]
-pub enum EdgeAnswer {
-    Column(usize),
-    Refused(u8),
+impl FallingPlace {
+    // The place `at` where its fall is larger than the steepest before it.
+    fn steeper(self, at: usize, fall: u64) -> FallingPlace
+        ensures { result ≡ steeper_of self at fall }
+    {
+        if fall > self.fall {
+            FallingPlace { at, fall }
+        } else {
+            self
+        }
+    }
 }
 
 // ---- sums
 
-// The sum of n counts from `start` on. A sum of 65,536 counts of 32 bits has 48.
-fn sum_from(counts: &[u32], start: usize, n: usize) -> u64
-    requires { (start + n ≤ length counts.now) × (n ≤ 65536) }
-    ensures { result ≡ sum_from (λ k. get_or counts.now k 0) start n }
+// A sum of 65,536 counts of 32 bits has 48.
+fn sum_of(counts: &[u32]) -> u64
+    requires { length counts.now ≤ 65536 }
+    ensures { result ≡ sum counts.now }
 {
-    let mut sum: u64 = 0;
-    let mut i: usize = 0;
-    while i < n {
-        sum += counts[start + i] as u64;
-        i += 1;
-    }
-    sum
+    counts.iter().map(|count| u64::from(*count)).sum()
 }
 
 // The place in a ring of n that i means, where i went round once at most.
@@ -76,37 +83,6 @@ fn wrapped(i: usize, n: usize) -> usize
     if i < n { i } else { i - n }
 }
 
-// The sum of the window at `start`, from that of the window before it: less the count that leaves, plus the one that enters.
-fn next_sum(counts: &[u32], width: usize, start: usize, sum: u64) -> u64
-    requires { (1 ≤ start) × (start < length counts.now) × (length counts.now ≤ 65536) × (1 ≤ width) × (width ≤ length counts.now) × (sum ≡ window_sum counts.now width (start - 1)) }
-    ensures { result ≡ window_sum counts.now width start }
-{
-    let enters = wrapped(start + width - 1, counts.len());
-    sum + counts[enters] as u64 - counts[start - 1] as u64
-}
-
-// With the window at `start`: it is the only one where its sum is larger than the best before it, and one more where it is the same.
-fn better(best: BestWindow, start: usize, sum: u64) -> BestWindow
-    requires { best.windows ≤ 65536 }
-    ensures { result ≡ better_of best start sum }
-{
-    if sum > best.sum {
-        return BestWindow {
-            start,
-            sum,
-            windows: 1,
-        };
-    }
-    if sum == best.sum {
-        return BestWindow {
-            start: best.start,
-            sum,
-            windows: best.windows + 1,
-        };
-    }
-    best
-}
-
 // ---- the pulse window
 
 // The first of the windows with the largest sum, in a ring of counts, and how many there are.
@@ -114,72 +90,50 @@ pub fn best_window(counts: &[u32], width: usize) -> BestWindow
     requires { (length counts.now ≤ 65536) × (1 ≤ width) × (width ≤ length counts.now) }
     ensures { result ≡ best_window counts.now width }
 {
-    let mut sum = sum_from(counts, 0, width);
+    let mut sum = sum_of(&counts[..width]);
     let mut best = BestWindow {
         start: 0,
         sum,
         windows: 1,
     };
-    let mut start: usize = 1;
-    while start < counts.len() {
-        sum = next_sum(counts, width, start, sum);
-        best = better(best, start, sum);
-        start += 1;
+    for start in 1..counts.len() {
+        // less the count that leaves, plus the one that enters
+        let enters = wrapped(start + width - 1, counts.len());
+        sum = sum + u64::from(counts[enters]) - u64::from(counts[start - 1]);
+        best = best.better(start, sum);
     }
     best
 }
 
-pub fn best_pulse_window(counts: &[u32], width: usize) -> WindowAnswer
+#[tactic(auto, unfolding(crate::specs::PulseWindow::window_answer))]
+pub fn best_pulse_window(counts: &[u32], width: usize) -> Result<BestWindow, Refusal>
     ensures { result ≡ window_answer counts.now width }
 {
     let n = counts.len();
     if n > 65536 || width == 0 || width > n {
-        return WindowAnswer::Refused(9);
+        return Err(Refusal::Count);
     }
-    WindowAnswer::Found(best_window(counts, width))
+    Ok(best_window(counts, width))
 }
 
 // ---- the median
-
-fn largest_count(counts: &[u32]) -> u32
-    ensures { result ≡ largest (λ k. get_or counts.now k 0) (length counts.now) }
-{
-    let mut most: u32 = 0;
-    let mut i: usize = 0;
-    while i < counts.len() {
-        most = limits::max_u32(most, counts[i]);
-        i += 1;
-    }
-    most
-}
-
-fn one_at_most(v: u32, x: u32) -> usize
-    ensures { result ≡ cond (leb x v) 1 0 }
-{
-    if x <= v { 1 } else { 0 }
-}
 
 // How many counts are at most v.
 fn count_at_most(v: u32, counts: &[u32]) -> usize
     ensures { result ≡ count_at_most v counts.now }
 {
-    let mut n: usize = 0;
-    let mut i: usize = 0;
-    while i < counts.len() {
-        n += one_at_most(v, counts[i]);
-        i += 1;
-    }
-    n
+    counts.iter().filter(|count| **count <= v).count()
 }
 
 // The count at place n / 2 in sorted order, found by halving: the smallest value that more than n / 2 counts are at most.
+// A `while`, since a range of values is halved and not a list: no iterator or search of std goes that way.
 fn median(counts: &[u32]) -> u32
     requires { 1 ≤ length counts.now }
     ensures { result ≡ median_of counts.now }
 {
     let half = counts.len() / 2;
     let mut low: u32 = 0;
-    let mut high = largest_count(counts);
+    let mut high = counts.iter().copied().max().unwrap_or(0);
     while low < high {
         let middle = low + (high - low) / 2;
         if count_at_most(middle, counts) > half {
@@ -193,6 +147,7 @@ fn median(counts: &[u32]) -> u32
 
 // ---- the quality
 
+#[tactic(auto, unfolding(crate::specs::Quality::quality_by, modespec::specs::Literals::of_bits))]
 fn quality_by(sum: u64, width: usize, median: u32, lines: usize) -> f32
     requires { (sum ≤ 281474976645120) × (width ≤ 65536) × (lines ≤ 65536) }
     ensures { result ≡ quality_by sum width median lines }
@@ -202,6 +157,7 @@ fn quality_by(sum: u64, width: usize, median: u32, lines: usize) -> f32
 }
 
 // How far the best window's mean lies above the median, as a part of the lines.
+#[tactic(auto, unfolding(crate::specs::Quality::quality_of, modespec::specs::Literals::of_bits))]
 pub fn quality(counts: &[u32], spec: ModeSpec, lines: usize) -> f32
     requires { (length counts.now ≤ 65536) × (lines ≤ 65536) × PulseFits spec (length counts.now) }
     ensures { result ≡ quality_of counts.now spec lines }
@@ -215,16 +171,15 @@ pub fn quality(counts: &[u32], spec: ModeSpec, lines: usize) -> f32
     quality_by(best.sum, width, median(counts), lines)
 }
 
-pub fn sync_quality(counts: &[u32], mode: u8, lines: usize) -> QualityAnswer
+#[tactic(auto, unfolding(crate::specs::Quality::quality_answer))]
+pub fn sync_quality(counts: &[u32], mode: u8, lines: usize) -> Result<f32, Refusal>
     ensures { result ≡ quality_answer counts.now mode lines }
 {
-    if mode > 15 {
-        return QualityAnswer::Refused(1);
-    }
+    let mode = Mode::try_from(mode)?;
     if counts.len() > 65536 || lines > 65536 {
-        return QualityAnswer::Refused(9);
+        return Err(Refusal::Count);
     }
-    QualityAnswer::Quality(quality(counts, modespec::for_mode(mode), lines))
+    Ok(quality(counts, mode.spec(), lines))
 }
 
 // ---- the falling edge
@@ -234,8 +189,8 @@ fn first_difference(counts: &[u32]) -> i64
     requires { 8 ≤ length counts.now }
     ensures { result ≡ difference_at counts.now 0 }
 {
-    let high = sum_from(counts, 0, 4);
-    let low = sum_from(counts, 4, 4);
+    let high = sum_of(&counts[..4]);
+    let low = sum_of(&counts[4..8]);
     (high as i64) - (low as i64)
 }
 
@@ -245,33 +200,14 @@ fn slide(difference: i64, leaves: u32, crosses: u32, enters: u32) -> i64
     requires { mag difference < 2 ^ 35 }
     ensures { result ≡ slid_by difference leaves crosses enters }
 {
-    difference - (leaves as i64) + 2 * (crosses as i64) - (enters as i64)
-}
-
-// The difference at column x, from that at the column before.
-fn next_difference(counts: &[u32], x: usize, difference: i64) -> i64
-    requires { (1 ≤ x) × (x + 8 ≤ length counts.now) × (difference ≡ difference_at counts.now (x - 1)) }
-    ensures { result ≡ difference_at counts.now x }
-{
-    slide(difference, counts[x - 1], counts[x + 3], counts[x + 7])
+    difference - i64::from(leaves) + 2 * i64::from(crosses) - i64::from(enters)
 }
 
 // A difference, and 0 where it is negative.
 fn clipped(difference: i64) -> u64
     ensures { result ≡ not_negative difference }
 {
-    if difference < 0 { 0 } else { difference as u64 }
-}
-
-// The place `at` where its fall is larger than the steepest before it.
-fn steeper(best: FallingPlace, at: usize, fall: u64) -> FallingPlace
-    ensures { result ≡ steeper_of best at fall }
-{
-    if fall > best.fall {
-        FallingPlace { at, fall }
-    } else {
-        best
-    }
+    u64::try_from(difference).unwrap_or(0)
 }
 
 // The first of the 692 places with the largest fall; the difference is a running value.
@@ -284,11 +220,9 @@ fn steepest(counts: &[u32]) -> FallingPlace
         at: 0,
         fall: clipped(difference),
     };
-    let mut x: usize = 1;
-    while x < 692 {
-        difference = next_difference(counts, x, difference);
-        best = steeper(best, x, clipped(difference));
-        x += 1;
+    for x in 1..692 {
+        difference = slide(difference, counts[x - 1], counts[x + 3], counts[x + 7]);
+        best = best.steeper(x, clipped(difference));
     }
     best
 }
@@ -309,25 +243,11 @@ pub fn falling_edge(counts: &[u32]) -> usize
     if best.fall == 0 { 0 } else { slip(best.at + 4) }
 }
 
-// Whether no count is above `most`.
-fn all_at_most(most: u32, counts: &[u32]) -> bool
-    ensures { result ≡ all_at_most most counts.now }
-{
-    let mut i: usize = 0;
-    while i < counts.len() {
-        if counts[i] > most {
-            return false;
-        }
-        i += 1;
-    }
-    true
-}
-
-pub fn falling_edge_from_x_acc(counts: &[u32]) -> EdgeAnswer
+pub fn falling_edge_from_x_acc(counts: &[u32]) -> Result<usize, Refusal>
     ensures { result ≡ edge_answer counts.now }
 {
-    if counts.len() != 700 || !all_at_most(1000000, counts) {
-        return EdgeAnswer::Refused(9);
+    if counts.len() != 700 || !counts.iter().all(|count| *count <= 1_000_000) {
+        return Err(Refusal::Count);
     }
-    EdgeAnswer::Column(falling_edge(counts))
+    Ok(falling_edge(counts))
 }

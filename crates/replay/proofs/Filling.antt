@@ -1,6 +1,6 @@
 -- A list whose first i places hold the first values of a function, and one place more. Assumes nothing.
-use Rattle.std.proofs.Common.{◌≡◌, ℕ, zero, suc, ◌+◌, ◌-◌, ◌*◌, ◌/◌, ◌<◌, ◌≤◌, min, List, [], ◌∷◌, ◌++◌, length, drop, set, sym, refl, ap, ◌∙◌, append_assoc, append-nil, add-one, arith, length-append, length-drop, drop-cons}
-use lib.Seq.{drop-length, set_at}
+use Rattle.std.proofs.Common.{◌≡◌, ℕ, zero, suc, ◌+◌, ◌<◌, List, [], ◌∷◌, ◌++◌, length, drop, set, sym, refl, ap, ◌∙◌, append_assoc, add-one, length-append, drop-cons}
+use Rattle.std.proofs.lemmas.List.{set_at}
 use Rattle.replay.specs.Each.{each}
 
 pub length_each : {A : Type 0} (f : ℕ → A) (n : ℕ) → length (each f n) ≡ n
@@ -17,12 +17,6 @@ module _ {A : Type 0} (f : ℕ → A) (l : List A) where
   unfolding each
   nothing = refl
 
-  pub length_filled : (i : ℕ) → i ≤ length l → length (filled i) ≡ length l
-  length_filled i h = length-append (each f i) (drop i l) ∙ ap (λ (k : ℕ). k + length (drop i l)) (length_each f i) ∙ ap (λ (k : ℕ). i + k) (length-drop i l) ∙ back i (length l) h
-    where
-      back : (a b : ℕ) → a ≤ b → a + (b - a) ≡ b
-      back a b k = omega arith
-
   pub one_more : (i : ℕ) → i < length l → set (filled i) i (f i) ≡ filled (i + 1)
   unfolding each
   one_more i h =
@@ -30,19 +24,3 @@ module _ {A : Type 0} (f : ℕ → A) (l : List A) where
       ∙ set_at (each f i) _ (drop (suc i) l) (f i) i (length_each f i)
       ∙ sym (append_assoc (each f i) (f i ∷ []) (drop (suc i) l))
       ∙ ap filled (sym (add-one i))
-
-  pub full : (i : ℕ) → i ≡ length l → filled i ≡ each f (length l)
-  full i e = ap filled e ∙ ap (λ (r : List A). each f (length l) ++ r) (drop-length l) ∙ append-nil (each f (length l))
-
--- ---- the places that are shared
-pub inside : (b p n i : ℕ) → n ≡ min (b / 4) p → i < n → 4 * i + 4 ≤ b
-inside b p n i e h = omega arith
-
-pub below : (b p n i : ℕ) → n ≡ min (b / 4) p → i < n → i < p
-below b p n i e h = omega arith
-
-pub shared : (b p n i : ℕ) → n ≡ min (b / 4) p → i ≤ n → i ≤ p
-shared b p n i e h = omega arith
-
-pub at_end : (i n : ℕ) → i ≤ n → n ≤ i → i ≡ n
-at_end i n h k = omega arith

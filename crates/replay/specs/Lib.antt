@@ -1,2 +1,6 @@
--- Lists that are filled. Definitions only.
+-- Lists that are filled or taken from, files that are read, and counts. Definitions only.
 pub mod Each
+pub mod Reading
+pub mod Taking
+pub mod Counts
+pub mod Optional

@@ -3,50 +3,99 @@
 // which the last says how many bytes follow, and these bytes. A word has eight bytes, the least first.
 #![tactic(auto)]
 
-pub mod lists;
+pub mod payload;
 pub mod tally;
 
-ghost use Rattle.std.specs.Prelude.{◌≡◌, ◌/◌, ◌≤◌, min, ◌++◌, length, drop, take, ◌<◌, IfOk};
+ghost use Rattle.std.specs.Prelude.{◌≡◌, ◌+◌, ◌≤◌, length, take, ◌<◌, IfOk, OnOk, vec_len};
 ghost use Rattle.std.specs.Io.KnownBytes.{Consumes, IsAtEnd};
-ghost use Rattle.words.specs.Words.{half_word_at, float32_at};
-ghost use Rattle.replay.specs.Each.{each};
+ghost use Rattle.replay.specs.Reading.{IsWordRead};
+ghost use Rattle.replay.specs.Optional.{optional_of, has_bits_or_none};
 
-use std::io::Read;
+use std::alloc::{AllocError, Global};
+use std::io::{BufReader, Read};
 use std::rt::Files;
 use std::{fs, io};
-pub use words::{
-    float_of, float32_of, half_word, low_half, same_bits, same_bits32, signed_bits, word,
-};
+use tally::{Tally, Verdict};
+pub use words::{Pattern, half_word, low_half, signed_bits, signed_of, word};
 
-// What is read of a file of short records. `Cut` is a record that the file does not hold whole.
+// A short record.
 #[derive(Clone, Copy)]
-pub enum Short {
-    End,
-    Cut,
-    Vector {
-        op: u64,
-        a: u64,
-        b: u64,
-        c: u64,
-        expected: u64,
-    },
+pub struct Vector {
+    pub op: u64,
+    pub a: u64,
+    pub b: u64,
+    pub c: u64,
+    pub expected: u64,
 }
 
-// What is read of a file of long records. The n bytes of a case are read by `payload`.
-#[derive(Clone, Copy)]
-pub enum Long {
-    End,
+// A long record.
+#[derive(Drop)]
+pub struct Case {
+    pub op: u64,
+    pub a: u64,
+    pub b: u64,
+    pub c: u64,
+    pub x: u64,
+    pub y: u64,
+    pub z: u64,
+    pub payload: Vec<u8>,
+}
+
+// Why a record is not read.
+#[derive(Drop)]
+pub enum Fault {
+    // the file does not hold it whole
     Cut,
-    Case {
-        op: u64,
-        a: u64,
-        b: u64,
-        c: u64,
-        x: u64,
-        y: u64,
-        z: u64,
-        n: u64,
-    },
+    Unread(io::Error),
+}
+
+impl From<io::Error> for Fault {
+    fn from(error: io::Error) -> Fault {
+        Fault::Unread(error)
+    }
+}
+
+impl From<AllocError> for Fault {
+    fn from(error: AllocError) -> Fault {
+        Fault::Unread(io::Error::from(error))
+    }
+}
+
+// A record of a vector file, which begins with its operation.
+pub trait Record: Sized + Drop {
+    // The record of operation `op`, of which the file has the rest.
+    fn with_rest<R: Read>(op: u64, file: &mut R, alloc: Global) -> Result<Self, Fault>;
+}
+
+impl Record for Vector {
+    fn with_rest<R: Read>(op: u64, file: &mut R, _alloc: Global) -> Result<Vector, Fault> {
+        Ok(Vector {
+            op,
+            a: word_within(file)?,
+            b: word_within(file)?,
+            c: word_within(file)?,
+            expected: word_within(file)?,
+        })
+    }
+}
+
+impl Record for Case {
+    fn with_rest<R: Read>(op: u64, file: &mut R, alloc: Global) -> Result<Case, Fault> {
+        let (a, b, c) = (word_within(file)?, word_within(file)?, word_within(file)?);
+        let (x, y, z) = (word_within(file)?, word_within(file)?, word_within(file)?);
+        let length = word_within(file)?;
+        let payload = bytes_within(file, length, alloc)?;
+        Ok(Case {
+            op,
+            a,
+            b,
+            c,
+            x,
+            y,
+            z,
+            payload,
+        })
+    }
 }
 
 // The file of that name, opened to read. Says so where it cannot be, and answers none.
@@ -67,6 +116,7 @@ fn read_full<R: Read>(file: &mut R, out: &mut [u8]) -> io::Result<usize>
     ensures end { IfOk result (λ n. n < length out.new → IsAtEnd (R.remaining file.new)) }
 {
     let mut done = 0;
+    // a `while`, since each read says how far the next turn goes on
     while done < out.len() {
         let n = file.read(&mut out[done..])?;
         if n == 0 {
@@ -77,149 +127,166 @@ fn read_full<R: Read>(file: &mut R, out: &mut [u8]) -> io::Result<usize>
     Ok(done)
 }
 
-// The next short record.
-pub fn next_short(file: &mut impl Read) -> io::Result<Short> {
-    let mut b = [0u8; 40];
-    let n = read_full(file, &mut b)?;
-    if n == 40 {
-        Ok(Short::Vector {
-            op: word(&b, 0),
-            a: word(&b, 8),
-            b: word(&b, 16),
-            c: word(&b, 24),
-            expected: word(&b, 32),
-        })
-    } else if n == 0 {
-        Ok(Short::End)
-    } else {
-        Ok(Short::Cut)
-    }
-}
-
-// The next long record's head.
-pub fn next_long(file: &mut impl Read) -> io::Result<Long> {
-    let mut b = [0u8; 64];
-    let n = read_full(file, &mut b)?;
-    if n == 64 {
-        Ok(Long::Case {
-            op: word(&b, 0),
-            a: word(&b, 8),
-            b: word(&b, 16),
-            c: word(&b, 24),
-            x: word(&b, 32),
-            y: word(&b, 40),
-            z: word(&b, 48),
-            n: word(&b, 56),
-        })
-    } else if n == 0 {
-        Ok(Long::End)
-    } else {
-        Ok(Long::Cut)
-    }
-}
-
-// Fills `out` with the bytes that follow. False where the file ends before.
-pub fn payload(file: &mut impl Read, out: &mut [u8]) -> io::Result<bool> {
-    Ok(read_full(file, out)? == out.len())
-}
-
-// How many half words `bytes` has for `out`, a list of `places` places.
-fn shared_count(bytes: usize, places: usize) -> usize
-    ensures { result ≡ min (bytes / 4) places }
+// The next word, none at the file's end.
+pub fn next_word<R: Read>(file: &mut R) -> Result<Option<u64>, Fault>
+    ensures { IfOk result (IsWordRead (R.remaining file.old) (R.remaining file.new)) }
 {
-    if bytes / 4 < places {
-        bytes / 4
-    } else {
-        places
+    let mut bytes = [0u8; 8];
+    match read_full(file, &mut bytes)? {
+        8 => Ok(Some(word(&bytes, 0))),
+        0 => Ok(None),
+        _ => Err(Fault::Cut),
     }
 }
 
-// Puts the half words of `bytes` into `out`, as many as both have, and answers how many.
-pub fn half_words(bytes: &[u8], out: &mut [u32]) -> usize
-    ensures value { result ≡ min (length bytes.now / 4) (length out.old) }
-    ensures out_after { out.new ≡ each (half_word_at bytes.now) result ++ drop result out.old }
+// The next word of a record that has begun.
+fn word_within<R: Read>(file: &mut R) -> Result<u64, Fault> {
+    next_word(file)?.ok_or(Fault::Cut)
+}
+
+// No record has more bytes behind it. One that says so is taken as cut.
+const MOST_BYTES: u64 = 262144;
+
+// The next n bytes of a record that has begun.
+pub fn bytes_within<R: Read>(file: &mut R, n: u64, alloc: Global) -> Result<Vec<u8>, Fault>
+    ensures { IfOk result (λ v. (vec_len v ≡ n) × Consumes (R.remaining file.old) (R.remaining file.new) v.items) }
 {
-    let n = shared_count(bytes.len(), out.len());
-    let mut i = 0;
-    while i < n {
-        out[i] = half_word(bytes, 4 * i);
-        i += 1;
+    if n > MOST_BYTES {
+        return Err(Fault::Cut);
     }
-    n
-}
-
-// The same, as `f32` values.
-pub fn floats32(bytes: &[u8], out: &mut [f32]) -> usize
-    ensures value { result ≡ min (length bytes.now / 4) (length out.old) }
-    ensures out_after { out.new ≡ each (float32_at bytes.now) result ++ drop result out.old }
-{
-    let n = shared_count(bytes.len(), out.len());
-    let mut i = 0;
-    while i < n {
-        out[i] = float32_of(half_word(bytes, 4 * i));
-        i += 1;
+    let mut bytes = vec![in alloc; 0u8; n as usize]?;
+    if read_full(file, &mut bytes)? < bytes.len() {
+        return Err(Fault::Cut);
     }
-    n
+    Ok(bytes)
 }
 
-// Fills a slice with one value.
-pub fn fill(out: &mut [u8], value: u8)
-    ensures { out.new ≡ each (λ k. value) (length out.old) }
+// Replays the records of the file `vectors`, and writes how many of each kind named there were.
+pub fn run<T: Record, R: Files + Print + Eprint, F: FnMut(T) -> io::Result<Verdict>>(
+    rt: &R,
+    alloc: Global,
+    kinds: &[&str],
+    answer: F,
+) -> io::Result<()>
+    requires { F.IsAlwaysCallable answer }
 {
-    let mut i = 0;
-    while i < out.len() {
-        out[i] = value;
-        i += 1;
+    let Some(file) = opened(rt, "vectors") else {
+        return Ok(());
+    };
+    let mut tally = Tally::new();
+    each_record(file, alloc, &mut tally, answer)?;
+    tally.report(rt, kinds)
+}
+
+// Replays a file's records, and tallies what `answer` says of each. A record that the file does not hold whole is wrong, and the last.
+pub fn each_record<T: Record, F: FnMut(T) -> io::Result<Verdict>>(
+    file: impl Read + Drop,
+    alloc: Global,
+    tally: &mut Tally,
+    mut answer: F,
+) -> io::Result<()>
+    requires { F.IsAlwaysCallable answer }
+{
+    let mut file = BufReader::new(alloc, file)?;
+    for _ in 0..u64::MAX {
+        match next_record(&mut file, alloc) {
+            Ok(Some(record)) => tally.count(answer(record)?),
+            Ok(None) => return Ok(()),
+            Err(Fault::Cut) => {
+                tally.count_cut();
+                return Ok(());
+            }
+            Err(Fault::Unread(error)) => return Err(error),
+        }
     }
+    Ok(())
 }
 
-pub fn fill32(out: &mut [f32], value: f32)
-    ensures { out.new ≡ each (λ k. value) (length out.old) }
-{
-    let mut i = 0;
-    while i < out.len() {
-        out[i] = value;
-        i += 1;
-    }
-}
-
-// The place n after `from`, or `len` where that is nearer.
-pub fn end_of(from: usize, n: u32, len: usize) -> usize
-    requires { from ≤ len }
-    ensures { (from ≤ result) × (result ≤ len) }
-{
-    let k = n as usize;
-    if k < len - from { from + k } else { len }
-}
-
-// Puts `value` into `out` from place `from` up to place `end`.
-fn repeat(out: &mut [u8], from: usize, end: usize, value: u8)
-    requires { (from ≤ end) × (end ≤ length out.old) }
-{
-    let mut at = from;
-    while at < end {
-        out[at] = value;
-        at += 1;
+// The next record, none at the file's end.
+pub fn next_record<T: Record, R: Read>(file: &mut R, alloc: Global) -> Result<Option<T>, Fault> {
+    match next_word(file)? {
+        Some(op) => Ok(Some(T::with_rest(op, file, alloc)?)),
+        None => Ok(None),
     }
 }
 
-fn low_bit(i: usize) -> u8 {
-    if i % 2 == 0 { 0 } else { 1 }
+// An optional value as it is recorded: all ones stand for none.
+pub fn optional(word: u64) -> Option<u64>
+    ensures { result ≡ optional_of word }
+{
+    if word == u64::MAX { None } else { Some(word) }
 }
 
-// Flags from their run lengths, half words, of which the first counts zeros, the next ones, and so on. Answers how many flags
-// there are, at most as many as `out` has places.
-pub fn flags(runs: &[u8], out: &mut [u8]) -> usize
-    ensures { result ≤ length out.old }
+// Whether an optional float is the one recorded.
+pub fn is_recorded(x: Option<f64>, word: u64) -> bool
+    ensures { result ≡ has_bits_or_none x (optional_of word) }
 {
-    let n = runs.len() / 4;
-    let mut at = 0;
-    let mut i = 0;
-    while i < n {
-        let end = end_of(at, half_word(runs, 4 * i), out.len());
-        repeat(out, at, end, low_bit(i));
-        at = end;
-        i += 1;
+    match (x, optional(word)) {
+        (Some(x), Some(bits)) => x.has_pattern(bits),
+        (None, None) => true,
+        _ => false,
     }
-    at
+}
+
+#[cfg(test)]
+mod tests {
+    use super::{Case, Vector, bytes_within, each_record, next_record};
+    use crate::tally::{Tally, Verdict};
+    use std::test::Fail;
+
+    // Two short records, and the beginning of a third.
+    const SHORT: [u8; 83] = [
+        3, 0, 0, 0, 0, 0, 0, 0, 1, 0, 0, 0, 0, 0, 0, 0, 2, 1, 0, 0, 0, 0, 0, 0, 4, 0, 0, 0, 0, 0,
+        0, 0, 5, 0, 0, 0, 0, 0, 0, 0, 2, 0, 0, 0, 0, 0, 0, 0, 6, 0, 0, 0, 0, 0, 0, 0, 7, 0, 0, 0,
+        0, 0, 0, 0, 8, 0, 0, 0, 0, 0, 0, 0, 9, 0, 0, 0, 0, 0, 0, 0, 1, 0, 0,
+    ];
+
+    // A long record, with three bytes behind its words.
+    const LONG: [u8; 67] = [
+        3, 0, 0, 0, 0, 0, 0, 0, 1, 0, 0, 0, 0, 0, 0, 0, 2, 1, 0, 0, 0, 0, 0, 0, 4, 0, 0, 0, 0, 0,
+        0, 0, 5, 0, 0, 0, 0, 0, 0, 0, 6, 0, 0, 0, 0, 0, 0, 0, 7, 0, 0, 0, 0, 0, 0, 0, 3, 0, 0, 0,
+        0, 0, 0, 0, 8, 9, 10,
+    ];
+
+    #[test]
+    fn records_are_read(rt: HostRuntime) -> Result<(), Fail> {
+        let mut file = [1, 2, 3].as_slice();
+        let bytes = bytes_within(&mut file, 2, rt.alloc())
+            .ok()
+            .ok_or("no bytes")?;
+        assert_eq!(rt; bytes.as_slice(), [1, 2].as_slice());
+
+        let mut file = SHORT.as_slice();
+        let Ok(Some(record)) = next_record::<Vector, _>(&mut file, rt.alloc()) else {
+            panic!(rt; "no short record");
+        };
+        let words = [record.op, record.a, record.b, record.c, record.expected];
+        assert_eq!(rt; words, [3, 1, 258, 4, 5]);
+
+        let mut file = LONG.as_slice();
+        let Ok(Some(record)) = next_record::<Case, _>(&mut file, rt.alloc()) else {
+            panic!(rt; "no long record");
+        };
+        let words = [
+            record.op, record.a, record.b, record.c, record.x, record.y, record.z,
+        ];
+        assert_eq!(rt; words, [3, 1, 258, 4, 5, 6, 7]);
+        assert_eq!(rt; record.payload.as_slice(), [8, 9, 10].as_slice());
+        assert!(rt; matches!(next_record::<Case, _>(&mut file, rt.alloc()), Ok(None)));
+        Ok(())
+    }
+
+    #[test]
+    fn records_are_tallied(rt: HostRuntime) -> Result<(), Fail> {
+        let mut tally = Tally::new();
+        each_record(SHORT.as_slice(), rt.alloc(), &mut tally, |record: Vector| {
+            Ok(Verdict {
+                kind: record.op,
+                right: record.expected == 5,
+            })
+        })?;
+        assert_eq!(rt; (tally.seen, tally.wrong), (3, 2));
+        assert_eq!(rt; tally.kinds, [0, 0, 1, 1, 0, 0, 0, 0, 0, 0, 0, 0]);
+        Ok(())
+    }
 }

@@ -1,130 +1,65 @@
-// What a vector program counts, and the lines that it writes. A record that the file does not hold whole is wrong, and the last.
-ghost use Rattle.std.specs.Prelude.{◌≤◌, length};
+// What a vector program counts, and the lines that it writes.
+ghost use Rattle.std.specs.Prelude.{◌≡◌, if◌then◌else◌};
+ghost use Rattle.replay.specs.Counts.{more_by};
 
 use std::io;
-use std::io::Write;
 
-// The records seen, those that are wrong, those of each operation, and whether there may be more.
+// What is said of a record: the kind that it counts as, mostly its operation, and whether its answer is right.
+#[derive(Clone, Copy)]
+pub struct Verdict {
+    pub kind: u64,
+    pub right: bool,
+}
+
+// The records seen, those that are wrong, and those of each kind.
 #[derive(Clone, Copy)]
 pub struct Tally {
     pub seen: u64,
     pub wrong: u64,
-    pub ops: [u64; 12],
-    pub more: bool,
+    pub kinds: [u64; 12],
 }
 
-fn one_more(n: u64) -> u64 {
-    std::num::wrapping_add_u64(n, 1)
-}
-
-pub fn start() -> Tally {
-    let ops = [0u64; 12];
-    Tally {
-        seen: 0,
-        wrong: 0,
-        ops,
-        more: true,
-    }
-}
-
-// The counts with one of operation `op` more.
-fn with_one(before: [u64; 12], op: u64) -> [u64; 12] {
-    let mut ops = before;
-    if op < 12 {
-        let i = op as usize;
-        ops[i] = one_more(ops[i]);
-    }
-    ops
-}
-
-// With one record of operation `op` more, right or wrong.
-pub fn counted(t: Tally, op: u64, right: bool) -> Tally {
-    let before = t.ops;
-    let ops = with_one(before, op);
-    let wrong = if right { t.wrong } else { one_more(t.wrong) };
-    Tally {
-        seen: one_more(t.seen),
-        wrong,
-        ops,
-        more: true,
-    }
-}
-
-// At the start of a further file.
-pub fn again(t: Tally) -> Tally {
-    let ops = t.ops;
-    Tally {
-        seen: t.seen,
-        wrong: t.wrong,
-        ops,
-        more: true,
-    }
-}
-
-// At the file's end.
-pub fn ended(t: Tally) -> Tally {
-    let ops = t.ops;
-    Tally {
-        seen: t.seen,
-        wrong: t.wrong,
-        ops,
-        more: false,
-    }
-}
-
-// At a record that is cut short.
-pub fn cut(t: Tally) -> Tally {
-    let ops = t.ops;
-    Tally {
-        seen: one_more(t.seen),
-        wrong: one_more(t.wrong),
-        ops,
-        more: false,
-    }
-}
-
-// How many of one operation there were, on a line.
-fn line(rt: &impl Print, name: &[u8], n: u64) -> io::Result<()> {
-    io::writer(rt).write_all(name)?;
-    println!(rt; " {n}")
-}
-
-// The place of the first space from place `from` on, or the end.
-fn space(names: &[u8], from: usize) -> usize
-    requires { from ≤ length names.now }
-    ensures { (from ≤ result) × (result ≤ length names.now) }
-{
-    let mut at = from;
-    while at < names.len() {
-        if names[at] == b' ' {
-            return at;
+impl Tally {
+    pub fn new() -> Tally
+        ensures { (result.seen ≡ 0) × (result.wrong ≡ 0) }
+    {
+        Tally {
+            seen: 0,
+            wrong: 0,
+            kinds: [0; 12],
         }
-        at += 1;
     }
-    at
-}
 
-// A line for each of the operations named, with a space between two names.
-fn lines(rt: &impl Print, names: &[u8], ops: [u64; 12]) -> io::Result<()> {
-    let mut from = 0;
-    let mut i = 0;
-    while i < 12 {
-        if from >= names.len() {
-            return Ok(());
+    // Counts a record, right or wrong.
+    pub fn count(&mut self, verdict: Verdict)
+        ensures seen { self.new.seen ≡ more_by 1 self.old.seen }
+        ensures wrong { self.new.wrong ≡ more_by (if verdict.right then 0 else 1) self.old.wrong }
+    {
+        self.seen = self.seen.wrapping_add(1);
+        if !verdict.right {
+            self.wrong = self.wrong.wrapping_add(1);
         }
-        let end = space(names, from);
-        line(rt, &names[from..end], ops[i])?;
-        from = end + 1;
-        i += 1;
+        if verdict.kind < 12 {
+            let kind = verdict.kind as usize;
+            self.kinds[kind] = self.kinds[kind].wrapping_add(1);
+        }
     }
-    Ok(())
-}
 
-// What a program writes: how many of each operation named there were, how many records, and how many of these are wrong.
-pub fn report(rt: &impl Print, names: &[u8], t: Tally) -> io::Result<()> {
-    let ops = t.ops;
-    let seen = t.seen;
-    let wrong = t.wrong;
-    lines(rt, names, ops)?;
-    println!(rt; "{seen} vectors, {wrong} wrong")
+    // Counts a record that the file does not hold whole, which is wrong.
+    pub fn count_cut(&mut self)
+        ensures seen { self.new.seen ≡ more_by 1 self.old.seen }
+        ensures wrong { self.new.wrong ≡ more_by 1 self.old.wrong }
+        ensures kinds { self.new.kinds ≡ self.old.kinds }
+    {
+        self.seen = self.seen.wrapping_add(1);
+        self.wrong = self.wrong.wrapping_add(1);
+    }
+
+    // What a program writes: how many of each kind named there were, how many records, and how many of these are wrong.
+    pub fn report(&self, rt: &impl Print, names: &[&str]) -> io::Result<()> {
+        for (name, n) in names.iter().zip(self.kinds.iter()) {
+            println!(rt; "{name} {n}")?;
+        }
+        println!(rt; "{} vectors, {} wrong", self.seen, self.wrong)
+    }
 }

@@ -1,5 +1,5 @@
 -- A quality is an `f32` from 0 to 1: that of counts of 32 bits, and so that of every window that an evaluation folds. Assumes nothing.
-use mathlib.Core.Path.{◌≡◌, refl, subst}
+use mathlib.Core.Path.{◌≡◌, subst}
 use mathlib.Core.Bool.{Bool, true, false, cond, ◌||◌}
 use mathlib.Core.List.{List, [], ◌∷◌}
 use Prim.Native.Nat.{ℕ, zero, suc, ◌*◌, ◌/◌, ◌^◌, ◌≤◌, ◌<◌}
@@ -7,6 +7,7 @@ use native.Mathlib.Nat.{le_trans, lt_of_le_of_lt}
 use native.Mathlib.Omega.{arith}
 use lib.Dec.{T, leb, eqb, lit<, lit≤, eqb→eq}
 use borrow.Author.Tests.{eqb-false}
+use Rattle.std.proofs.lemmas.Bool.{cond_both, or_parts}
 use lib.ListN.{length, get_or, drop}
 use lib.IntN.{ℤ, pos}
 use lib.Ieee.{Float, nan, inf, fin, binary32, binary64, up, down, round, sub, div, lt, le, eq, fits, of_int}
@@ -108,25 +109,23 @@ median_below v xs h = sorted_below v xs h (length xs / 2)
 module _ (counts : List ℕ) (spec : ModeSpec) (lines : ℕ) where
   pub quality_of_part : ((k : ℕ) → get_or counts k 0 < 2 ^ 32) → length counts ≤ 65536 → lines ≤ 65536 → PulseFits spec (length counts) → Part (quality_of counts spec lines)
   unfolding quality_of fits le
-  quality_of_part h n l f = go (eqb (length counts) 0) (eqb lines 0) refl refl
+  quality_of_part h n l f =
+      cond_both (eqb (length counts) 0 || eqb lines 0) (fin false 0 (pos 0)) (quality_by (best_window counts width).sum width (median_of counts) lines) Part
+      (λ e. record { fits = tt; low = tt; high = tt })
+      (λ e.
+      let k = or_parts (eqb (length counts) 0) (eqb lines 0) e in
+      let w = f (some (length counts) k.0) in
+      let most : width ≤ 65536 = le_trans w.1 n in
+      quality_part (best_window counts width).sum width (median_of counts) lines
+      (le_trans (best_below counts width h most) (lit≤ tt)) w.0 (le_trans most (lit≤ tt))
+      (le_trans (median_below 4294967295 counts (λ k. omega (arith, h k))) (lit≤ tt))
+      (some lines k.1) (le_trans l (lit≤ tt)))
     where
       some : (n : ℕ) → eqb n 0 ≡ false → 0 < n
       some n e = let d : n ≡ 0 → ⊥ = eqb-false n 0 e in omega arith
 
       width : ℕ
       width = pulse_columns spec (length counts)
-
-      go : (a b : Bool) → eqb (length counts) 0 ≡ a → eqb lines 0 ≡ b
-          → Part (cond (a || b) (fin false 0 (pos 0)) (quality_by (best_window counts width).sum width (median_of counts) lines))
-      go true b p q = record { fits = tt; low = tt; high = tt }
-      go false true p q = record { fits = tt; low = tt; high = tt }
-      go false false p q =
-          let w = f (some (length counts) p) in
-          let most : width ≤ 65536 = le_trans w.1 n in
-          quality_part (best_window counts width).sum width (median_of counts) lines
-          (le_trans (best_below counts width h most) (lit≤ tt)) w.0 (le_trans most (lit≤ tt))
-          (le_trans (median_below 4294967295 counts (λ k. omega (arith, h k))) (lit≤ tt))
-          (some lines q) (le_trans l (lit≤ tt))
 
 -- ---- of a window
 

@@ -1,6 +1,6 @@
 -- Every rate that four passes reach from 11,025 Hz lies from 7,997 to 14,053, and the slant is none or one of the 240 angles. Assumes nothing.
 use mathlib.Core.Path.{◌≡◌, refl, sym, ap, ◌∙◌, subst}
-use mathlib.Core.Bool.{Bool, true, false, cond, ◌&&◌}
+use mathlib.Core.Bool.{Bool, true, false, ◌&&◌}
 use mathlib.Core.Logic.{◌⊎◌, inl, inr}
 use mathlib.Core.List.{List, [], ◌∷◌}
 use Prim.Native.Nat.{ℕ, zero, suc, ◌+◌, ◌-◌, ◌*◌, ◌/◌, ◌%◌, ◌^◌, ◌≤◌, ◌<◌}
@@ -13,6 +13,8 @@ use lib.Ieee.{Float, nan, inf, fin, binary64, up, down, round, neg, add, sub, mu
 use lib.Ieee.Fits.{down_pos, and_l, and_r, add-fits}
 use lib.Ieee.Order.{round_mono}
 use lib.Ieee.Positive.{num, den, positive}
+use Rattle.std.specs.Prelude.{None, Some}
+use Rattle.std.proofs.lemmas.Bool.{cond_both}
 use Rattle.ieee.specs.Numbers.{of_nat}
 use Rattle.ieee.proofs.Whole.{whole_value, whole_positive}
 use Rattle.ieee.proofs.Unsigned.{unsigned, own_value, le→cross, bounded, div_at}
@@ -23,10 +25,8 @@ use Rattle.modespec.specs.ModeSpec.{spec_of}
 use Rattle.modespec.specs.Sizes.{working_rate, line_width}
 use Rattle.modespec.proofs.Rows.{line_width_lem}
 use Rattle.angles.specs.Angle.{tangent_table, tangent_bits}
-use Rattle.hough.specs.declared.Slant.{Slant}
-use Rattle.hough.specs.declared.SlantDeg.TheVariants as SlantDeg
 use Rattle.hough.specs.declared.Passes.{Passes}
-use Rattle.hough.specs.Pass.{Pass, pass_of, votes_of, winner_of, angle_of, rate_of, slant_by, slant_of}
+use Rattle.hough.specs.Pass.{pass_of, votes_of, winner_of, angle_of, rate_of, slant_by, slant_of}
 use Rattle.hough.specs.Passes.{outside_deadband, slant_ok, adjusted, after_pass, passes_from, passes_of}
 use Rattle.report_range.specs.Report.{Listed, none, angle}
 
@@ -161,25 +161,11 @@ rising : (n b : ℕ) → b ≤ high_to n b
 rising zero b = le_refl b
 rising (suc n) b = le_trans (more b (reach b)) (rising n (b + reach b))
 
--- what a pass answers
-data Told (r : Float) (w : ℕ) : Slant → Type 0 where
-  nothing : Told r w Slant.None
-  found : (q : ℕ) → q < 240 → Told r w (Slant.Found (angle_of q) (rate_of r w q))
-
-told : (p : Pass) → Told p.rate p.width (slant_of p)
-unfolding slant_of
-told p = by_votes (votes_of p)
-  where
-    by_votes : (vs : List ℕ) → Told p.rate p.width (slant_by vs p.rate p.width)
-    by_votes [] = nothing
-    by_votes (v ∷ vs) = found (winner_of (v ∷ vs) % 240) (mod-lt (winner_of (v ∷ vs)) (lit< tt))
-
 module _ (w : ℕ) (k : 32 ≤ w) (l : w ≤ 65536) (flags : List ℕ) (spec : ModeSpec) where
   passes_in : (n a b : ℕ) → T (steps n a b) → (t : Passes) → Reached a b t → Reached (low_to n a b) (high_to n b) (passes_from n flags spec w t)
-  unfolding passes_from
+  unfolding passes_from slant_of
   passes_in zero a b ok t r = r
-  passes_in (suc n) a b ok t r =
-      go (λ t' m. passes_in n a' b' (and_r (leb b' (2 ^ 53) && leb (reach b) a) (steps n a' b') ok) t' m) (slant_of (pass_of flags t.rate spec w)) (told (pass_of flags t.rate spec w))
+  passes_in (suc n) a b ok t r = after (λ t' m. passes_in n a' b' (and_r (leb b' (2 ^ 53) && leb (reach b) a) (steps n a' b') ok) t' m) (votes_of (pass_of flags t.rate spec w))
     where
       a' : ℕ
       a' = a - reach b
@@ -190,25 +176,26 @@ module _ (w : ℕ) (k : 32 ≤ w) (l : w ≤ 65536) (flags : List ℕ) (spec : M
       both : T (leb b' (2 ^ 53) && leb (reach b) a)
       both = and_l (leb b' (2 ^ 53) && leb (reach b) a) (steps n a' b') ok
 
-      moved : (q : ℕ) → q < 240 → (c : Bool) → Reached a' b' (record { rate = cond c (rate_of t.rate w q) t.rate; slant_deg = SlantDeg.Degrees (angle_of q) })
-      moved q j true =
-          record {
+      moved : (q : ℕ) → q < 240 → Reached a' b' (adjusted t (angle_of q) (rate_of t.rate w q))
+      moved q j =
+          cond_both (outside_deadband (angle_of q)) (rate_of t.rate w q) t.rate (λ x. Reached a' b' (record { rate = x; slant_deg = Some (angle_of q) }))
+          (λ e. record {
             fits = rate_fits t.rate w q;
             rate = rate_in a b w t.rate r.rate k l (leb→le b' (2 ^ 53) (and_l (leb b' (2 ^ 53)) (leb (reach b) a) both)) (leb→le (reach b) a (and_r (leb b' (2 ^ 53)) (leb (reach b) a) both)) q j;
             slant = angle q j;
-          }
-      moved q j false = record { fits = r.fits; rate = wider a b a' b' t.rate (less a (reach b)) (more b (reach b)) r.rate; slant = angle q j }
+          })
+          (λ e. record { fits = r.fits; rate = wider a b a' b' t.rate (less a (reach b)) (more b (reach b)) r.rate; slant = angle q j })
 
-      Onward : Type 0
-      Onward = (t' : Passes) → Reached a' b' t' → Reached (low_to n a' b') (high_to n b') (passes_from n flags spec w t')
-
-      ended : Onward → (t' : Passes) (c : Bool) → Reached a' b' t' → Reached (low_to n a' b') (high_to n b') (cond c t' (passes_from n flags spec w t'))
-      ended on t' true m = widen a' b' _ _ t' (falling n a' b') (rising n b') m
-      ended on t' false m = on t' m
-
-      go : Onward → (s : Slant) → Told t.rate w s → Reached (low_to n a' b') (high_to n b') (after_pass s t (passes_from n flags spec w))
-      go on s nothing = widen a b _ _ t (le_trans (falling n a' b') (less a (reach b))) (le_trans (more b (reach b)) (rising n b')) r
-      go on s (found q j) = ended on (adjusted t (angle_of q) (rate_of t.rate w q)) (slant_ok (angle_of q)) (moved q j (outside_deadband (angle_of q)))
+      -- a pass without votes ends the passes, and one with votes tells an angle of the list
+      after : ((t' : Passes) → Reached a' b' t' → Reached (low_to n a' b') (high_to n b') (passes_from n flags spec w t'))
+          → (vs : List ℕ) → Reached (low_to n a' b') (high_to n b') (after_pass (slant_by vs t.rate w) t (passes_from n flags spec w))
+      after on [] = widen a b _ _ t (le_trans (falling n a' b') (less a (reach b))) (le_trans (more b (reach b)) (rising n b')) r
+      after on (v ∷ vs) =
+          let q = winner_of (v ∷ vs) % 240 in
+          let t' = adjusted t (angle_of q) (rate_of t.rate w q) in
+          let m : Reached a' b' t' = moved q (mod-lt (winner_of (v ∷ vs)) (lit< tt)) in
+          cond_both (slant_ok (angle_of q)) t' (passes_from n flags spec w t') (Reached (low_to n a' b') (high_to n b'))
+          (λ e. widen a' b' _ _ t' (falling n a' b') (rising n b') m) (λ e. on t' m)
 
 -- from 11,025 Hz, in every mode
 pub passes_reach : (mode : ℕ) (flags : List ℕ) → Reached 7997 14053 (passes_of (spec_of mode) working_rate flags)
@@ -216,5 +203,5 @@ unfolding passes_of of_int fits
 passes_reach mode flags =
     let W = line_width_lem mode in
     passes_in (line_width (spec_of mode)) (le_trans (lit≤ tt) W.low) (le_trans W.high (lit≤ tt)) flags (spec_of mode) 4 11025 11025 tt
-    (record { rate = working_rate; slant_deg = SlantDeg.None })
+    (record { rate = working_rate; slant_deg = None })
     (record { fits = tt; rate = record { unsigned = tt; least = le_refl 11025; most = le_refl 11025 }; slant = none })

@@ -1,11 +1,9 @@
 -- What a session's start and report can hold (02-change-requests.md, A.1, A.3): each field is one that a card may have, and the count beside a start is
 -- from 1 to 700. Definitions only.
-use Rattle.std.specs.Prelude.{ℕ, ◌^◌, ◌≤◌, ◌<◌, false, T, pos, nat_abs, Float}
+use Rattle.std.specs.Prelude.{ℕ, ◌^◌, ◌≤◌, ◌<◌, false, T, pos, nat_abs, Option, None, Some, Float}
 use Rattle.std.specs.Float.{inf, fin, binary32, binary64}
 use Rattle.std.specs.Float.Ieee.{lt, le, fits}
 use Rattle.ieee.specs.Numbers.{of_nat}
-use Rattle.hough.specs.declared.SlantDeg.{SlantDeg}
-use Rattle.hough.specs.declared.SlantDeg.TheVariants.{None, Degrees}
 use Rattle.hough.specs.Pass.{angle_of}
 use Rattle.sync.specs.declared.SyncResult.{SyncResult}
 use Rattle.plain.specs.declared.Start.{Start}
@@ -27,9 +25,9 @@ pub record Rate (x : Float) : Type 0 where
   pub high : T (le x (of_nat 14053))
 
 -- a slant: none, or one of the 240 angles
-pub data Listed : SlantDeg → Type 0 where
+pub data Listed : Option Float → Type 0 where
   none : Listed None
-  angle : (q : ℕ) → q < 240 → Listed (Degrees (angle_of q))
+  angle : (q : ℕ) → q < 240 → Listed (Some (angle_of q))
 
 pub record SoundReport (r : SyncResult) : Type 0 where
   pub rate : Rate r.adjusted_rate_hz

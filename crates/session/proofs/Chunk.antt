@@ -3,9 +3,9 @@
 use mathlib.Core.Path.{◌≡◌, refl, sym, ◌∙◌, ap}
 use mathlib.Core.Bool.{true, false}
 use mathlib.Core.List.{List, ◌++◌}
-use Prim.Native.Nat.{ℕ, ◌+◌, ◌-◌, ◌*◌, ◌≤◌, ◌<◌, ◌^◌}
+use Prim.Native.Nat.{ℕ, ◌+◌, ◌*◌, ◌≤◌, ◌<◌, ◌^◌}
 use native.Mathlib.Omega.{arith}
-use lib.ListN.{length, take, drop}
+use lib.ListN.{length, take}
 use lib.Seq.{paste, length-paste, take-paste, take-length}
 use lib.Ieee.{Float}
 use Rattle.modespec.specs.Sizes.{robot}
@@ -14,34 +14,22 @@ use Rattle.plain.proofs.Laws.{evaluating_live}
 use Rattle.session.specs.declared.Session.{Session}
 use Rattle.session.specs.Hold.{setup_of, plain_of, Known, position_of, Sane, kept_at}
 use Rattle.session.specs.Steps.{Judged, Finished, Closed, Turned}
-use Rattle.session_parts.proofs.Lists.{put_tail}
 use Rattle.session_parts.proofs.Kept.{known_more}
 
 abbrev pub grown : Session → ℕ → Session
-grown s n =
-    record {
-      mode = s.mode;
-      anchor = s.anchor;
-      capacity = s.capacity;
-      taken = s.taken + n;
-      evaluations = s.evaluations;
-      streak = s.streak;
-      phase = s.phase;
-    }
+grown s n = record s { taken = s.taken + n }
 
 -- ---- the whole chunk
 
 pub turn_done : (s : Session) (st : List ℕ) (sm : List Float) (im vo fl : List ℕ) (ys : List Float) (j f r : Session)
-    (tail st' : List ℕ) (sm' : List Float) (im' vo' : List ℕ)
+    (st' : List ℕ) (sm' : List Float) (im' vo' : List ℕ)
     → Sane s → ended_phase s.phase ≡ false → s.capacity ≡ length st → (robot s.mode ≡ true → 4 * s.capacity + 4 ≤ length sm)
     → 0 < length fl → s.taken + length fl ≤ length st → length ys ≡ 4 * length fl
-    → tail ≡ fl ++ drop (length fl) (take (length st - s.taken) (drop s.taken st))
-    → st' ≡ take s.taken st ++ (tail ++ drop (length st - s.taken) (drop s.taken st))
+    → st' ≡ paste st s.taken fl (length fl)
     → sm' ≡ kept_at s.mode (4 * s.taken + 4) ys (length ys) sm
     → Judged (grown s (length fl)) st' sm' j → Finished j st' im vo f im' vo' → Closed f r
     → Turned s st sm im vo fl ys r st' sm' im' vo'
-turn_done s st sm im vo fl ys j f r tail st' sm' im' vo' sane live cap wide some fits size ht hst hsm hj hf hr =
-    let stored : st' ≡ paste st s.taken fl (length fl) = rw (hst, ht) (put_tail s.taken st fl fits) in
+turn_done s st sm im vo fl ys j f r st' sm' im' vo' sane live cap wide some fits size stored hsm hj hf hr =
     let same : length st' ≡ length st = rw stored (length-paste st s.taken fl (length fl) fits (omega arith)) in
     let front : take (s.taken + length fl) st' ≡ take s.taken st ++ fl =
     rw (stored, take-paste st s.taken fl (length fl) (omega arith) (omega arith), take-length) in

@@ -5,33 +5,30 @@ use mathlib.Core.Path.{◌≡◌, refl, sym, ◌∙◌, ap, ap₂, subst}
 use mathlib.Core.Bool.{false, false≢true}
 use mathlib.Core.List.{List, ◌∷◌, Memᴰ}
 use Prim.Native.Nat.{ℕ}
-use borrow.Author.Tests.{ne_eqb}
-use lib.Dec.{eqb}
 use Rattle.modespec.specs.Sizes.{robot}
 use native.Mathlib.Omega.{arith}
+use Rattle.std.specs.Prelude.{Ok, Err}
+use Rattle.limits.specs.declared.Refusal.{Refusal}
 use lib.ListN.{length, take, get_or}
 use lib.Seq.{length-take-le}
 use lib.Ieee.{Float}
 use Rattle.plain.specs.Plain.{Plain, opened}
 use Rattle.plain.specs.Point.{Point, point_of, point_less, FromAnchor}
-use Rattle.plain.specs.Calls.{Lengths, Call, feed, Answer, refused, answer, answers, after, run_to, feed_code}
+use Rattle.plain.specs.Calls.{Lengths, Call, feed, Answer, refused, answer, answers, after, run_to, feed_refusal}
 use Rattle.plain.specs.Lists.{flags_taken, list_reads}
 use Rattle.plain.proofs.TwoLists.{two_lists, starts_from, silence}
 use Rattle.session.specs.declared.Session.{Session}
-use Rattle.session.specs.declared.Opened.TheVariants as op
-use Rattle.session.specs.declared.Fed.TheVariants.{Refused}
 use Rattle.session.specs.Hold.{setup_of, lengths, plain_of, Holds, OpenMeets, FeedNumber, feed_call, setup, session_point}
 use Rattle.session.specs.Trace.{Trace, done, fed, gave, lent, another}
 use Rattle.session.proofs.Rooms.{open_room}
 
--- a refused feed, whatever it was lent: the plain session refuses with the number, and stays
-refuses : (p : Plain) (s : Session) (st : List ℕ) (sm : List Float) → Holds p s st sm → (m : Lengths) (fl : List ℕ) (ys : List Float) (k : ℕ)
-    → FeedNumber (Refused k) (feed_code (setup_of s) s.phase m fl ys)
-    → (refused k ≡ answer p (feed m fl ys)) × (after p (feed m fl ys) ≡ p)
-refuses p s st sm h m fl ys k number =
-    let code : feed_code p.setup p.phase m fl ys ≡ k = ap (λ (q : Plain). feed_code q.setup q.phase m fl ys) (sym h.same) ∙ number.0 in
-    let some : eqb k 0 ≡ false = ne_eqb k 0 (let l = number.1 in omega arith) in
-    (rw (code, some), rw (code, some))
+-- a refused feed, whatever it was lent: the plain session refuses for the same cause, and stays
+refuses : (p : Plain) (s : Session) (st : List ℕ) (sm : List Float) → Holds p s st sm → (m : Lengths) (fl : List ℕ) (ys : List Float) (e : Refusal)
+    → FeedNumber (Err e) (feed_refusal (setup_of s) s.phase m fl ys)
+    → (refused e ≡ answer p (feed m fl ys)) × (after p (feed m fl ys) ≡ p)
+refuses p s st sm h m fl ys e number =
+    let why : feed_refusal p.setup p.phase m fl ys ≡ Err e = ap (λ (q : Plain). feed_refusal q.setup q.phase m fl ys) (sym h.same) ∙ number in
+    (rw why, rw why)
 
 -- without parity samples any sample store will do
 any_samples : (p : Plain) (s : Session) (st : List ℕ) (sm other : List Float) → robot s.mode ≡ false → Holds p s st sm → Holds p s st other
@@ -56,8 +53,8 @@ follows (fed s st sm im vo fl ys r st₁ sm₁ im₁ vo₁ cs as' z st' sm' m t)
 follows (gave s st sm g cs as' z st' sm' m t) p h =
     let rest = follows t p h in
     (ap₂ (λ (a : Answer) (l : List Answer). a ∷ l) (m.plain p st sm h) rest.0, rest.1)
-follows (lent s st sm os oy im vo fl ys k os₁ oy₁ im₁ vo₁ cs as' z st' sm' m t) p h =
-    let one = refuses p s st sm h (lengths (length os) (length oy) (length im) (length vo)) fl ys k m.number in
+follows (lent s st sm os oy im vo fl ys e os₁ oy₁ im₁ vo₁ cs as' z st' sm' m t) p h =
+    let one = refuses p s st sm h (lengths (length os) (length oy) (length im) (length vo)) fl ys e m.number in
     let rest = follows t (after p (feed_call os oy im vo fl ys)) (subst (λ (q : Plain). Holds q s st sm) (sym one.1) h) in
     (ap₂ (λ (a : Answer) (l : List Answer). a ∷ l) one.0 rest.0, rest.1)
 follows (another s st sm other cs as' z st' sm' e t) p h = follows t p (any_samples p s st sm other e h)
@@ -71,7 +68,7 @@ held_point p s st sm h =
     f ∙ ap point_of h.same
 
 -- First theorem: all answers of a list and the point after it, in one claim.
-pub as_plain : (mode anchor : ℕ) (st : List ℕ) (sm first sm₀ : List Float) (s : Session) → OpenMeets mode anchor st sm first (op.Ready s) sm₀
+pub as_plain : (mode anchor : ℕ) (st : List ℕ) (sm first sm₀ : List Float) (s : Session) → OpenMeets mode anchor st sm first (Ok s) sm₀
     → {cs : List Call} {as' : List Answer} {z : Session} {st' : List ℕ} {sm' : List Float} → Trace s st sm₀ cs as' z st' sm'
     → (as' ≡ answers (opened (setup mode anchor (length st)) first) cs)
     × (session_point z ≡ point_of (run_to (opened (setup mode anchor (length st)) first) cs))
@@ -81,7 +78,7 @@ as_plain mode anchor st sm first sm₀ s o {cs} {as'} {z} {st'} {sm'} t =
     (r.0, held_point (run_to p cs) z st' sm' r.1)
 
 -- Beside the second theorem: the start after a list, where there is one, is not before the anchor, so that the start less the anchor is cut nowhere.
-pub start_from_anchor : (mode anchor : ℕ) (st : List ℕ) (sm first sm₀ : List Float) (s : Session) → OpenMeets mode anchor st sm first (op.Ready s) sm₀
+pub start_from_anchor : (mode anchor : ℕ) (st : List ℕ) (sm first sm₀ : List Float) (s : Session) → OpenMeets mode anchor st sm first (Ok s) sm₀
     → {cs : List Call} {as' : List Answer} {z : Session} {st' : List ℕ} {sm' : List Float} → Trace s st sm₀ cs as' z st' sm'
     → FromAnchor anchor (session_point z).stage
 start_from_anchor mode anchor st sm first sm₀ s o {cs} t =
@@ -90,7 +87,7 @@ start_from_anchor mode anchor st sm first sm₀ s o {cs} t =
 -- Second theorem: two lists of one mode and store length, any anchors, cuts, refused calls and other samples. With the same flags taken,
 -- and each sample that an evaluation of the first reads for parity equal under its number in the second: the same point, the starts less the anchors.
 pub same_point : (mode a b : ℕ) (st₁ st₂ : List ℕ) (sm₁ first₁ sm₁' sm₂ first₂ sm₂' : List Float) (s₁ s₂ : Session) → length st₁ ≡ length st₂
-    → OpenMeets mode a st₁ sm₁ first₁ (op.Ready s₁) sm₁' → OpenMeets mode b st₂ sm₂ first₂ (op.Ready s₂) sm₂'
+    → OpenMeets mode a st₁ sm₁ first₁ (Ok s₁) sm₁' → OpenMeets mode b st₂ sm₂ first₂ (Ok s₂) sm₂'
     → {cs ds : List Call} {as' bs : List Answer} {z₁ z₂ : Session} {fe₁ fe₂ : List ℕ} {se₁ se₂ : List Float}
     → Trace s₁ st₁ sm₁' cs as' z₁ fe₁ se₁ → Trace s₂ st₂ sm₂' ds bs z₂ fe₂ se₂
     → flags_taken (opened (setup mode a (length st₁)) first₁) cs ≡ flags_taken (opened (setup mode b (length st₂)) first₂) ds

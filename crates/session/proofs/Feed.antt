@@ -7,62 +7,47 @@ use Prim.Native.Nat.{ℕ, ◌+◌, ◌-◌, ◌*◌, ◌≤◌, ◌<◌}
 use native.Mathlib.Omega.{arith}
 use lib.ListN.{length, take, get_or}
 use lib.Seq.{length-take-le, paste, paste-zero, length-paste, take-paste, get_or-take, get_or-append-add}
-use lib.Dec.{eqb}
 use lib.Ieee.{Float}
-use borrow.Author.Tests.{ne_eqb}
+use Rattle.std.specs.Prelude.{Result, Ok}
+use Rattle.limits.specs.declared.Refusal.{Refusal}
 use Rattle.modespec.specs.Sizes.{robot}
 use Rattle.plain.specs.Plain.{Plain, ended_phase, through}
-use Rattle.plain.specs.Calls.{took, answer, after, feed_code}
+use Rattle.plain.specs.Calls.{took, answer, after, feed_refusal}
 use Rattle.session.specs.declared.Session.{Session}
-use Rattle.session.specs.declared.Fed.TheVariants as fed
 use Rattle.session.specs.Hold.{setup_of, lengths, plain_of, Sane, Holds, FeedMeets, feed_call}
 use Rattle.session.specs.Steps.{Ran}
 use Rattle.session_parts.proofs.Kept.{kept_length, kept_none}
 use Rattle.session.proofs.Steps.{live_work}
-use Rattle.plain.proofs.Codes.{code_parts, room_of_memory, room_of_sound}
+use Rattle.plain.proofs.Refusals.{refusal_parts, room_of_memory, room_of_sound}
 use Rattle.session.proofs.Loop.{Room}
 
--- ---- a feed that no number applies to
+-- ---- a feed that is not refused
 
-pub code_room : (s : Session) (st : List ℕ) (sm : List Float) (im vo fl : List ℕ) (ys : List Float)
-    → feed_code (setup_of s) s.phase (lengths (length st) (length sm) (length im) (length vo)) fl ys ≡ 0 → Room s st sm im vo fl ys
-code_room s st sm im vo fl ys e =
-    let k = code_parts (setup_of s) s.phase (lengths (length st) (length sm) (length im) (length vo)) fl ys e in
+pub feed_room : (s : Session) (st : List ℕ) (sm : List Float) (im vo fl : List ℕ) (ys : List Float)
+    → feed_refusal (setup_of s) s.phase (lengths (length st) (length sm) (length im) (length vo)) fl ys ≡ Ok tt → Room s st sm im vo fl ys
+feed_room s st sm im vo fl ys e =
+    let k = refusal_parts (setup_of s) s.phase (lengths (length st) (length sm) (length im) (length vo)) fl ys e in
     let m = room_of_memory s.mode s.capacity (lengths (length st) (length sm) (length im) (length vo)) k.0 in
     let o = room_of_sound fl ys k.1 in
     record { kept = sym m.0; wide = m.1; image = m.2; counts = m.3; short = o.0; four = o.1 }
 
-pub code_live : (s : Session) (st : List ℕ) (sm : List Float) (im vo fl : List ℕ) (ys : List Float)
-    → feed_code (setup_of s) s.phase (lengths (length st) (length sm) (length im) (length vo)) fl ys ≡ 0 → ended_phase s.phase ≡ false
-code_live s st sm im vo fl ys e = (code_parts (setup_of s) s.phase (lengths (length st) (length sm) (length im) (length vo)) fl ys e).2
+pub feed_live : (s : Session) (st : List ℕ) (sm : List Float) (im vo fl : List ℕ) (ys : List Float)
+    → feed_refusal (setup_of s) s.phase (lengths (length st) (length sm) (length im) (length vo)) fl ys ≡ Ok tt → ended_phase s.phase ≡ false
+feed_live s st sm im vo fl ys e = (refusal_parts (setup_of s) s.phase (lengths (length st) (length sm) (length im) (length vo)) fl ys e).2
 
 -- ---- the three ways of a feed
 
 module _ (s : Session) (st : List ℕ) (sm : List Float) (im vo fl : List ℕ) (ys : List Float) where
-  abbrev code_of : ℕ
-  code_of = feed_code (setup_of s) s.phase (lengths (length st) (length sm) (length im) (length vo)) fl ys
+  abbrev refusal_of : Result Unit Refusal
+  refusal_of = feed_refusal (setup_of s) s.phase (lengths (length st) (length sm) (length im) (length vo)) fl ys
 
-  -- the number is that of any plain session that is held
-  code_plain : (p : Plain) → Holds p s st sm → feed_code p.setup p.phase (lengths (length st) (length sm) (length im) (length vo)) fl ys ≡ code_of
-  code_plain p h =
-      ap (λ (q : Plain). feed_code q.setup q.phase (lengths (length st) (length sm) (length im) (length vo)) fl ys) (sym h.same)
-
-  pub feed_refused : (k : ℕ) → k ≡ code_of → (k ≡ 0 → ⊥) → FeedMeets s st sm im vo fl ys (fed.Refused k) st sm im vo
-  feed_refused k code some =
-      let pos : eqb k 0 ≡ false = ne_eqb k 0 some in
-      record {
-        number = (sym code, omega (arith, some));
-        count = omega arith;
-        room = λ h. absurd (omega arith);
-        stored = paste-zero st s.taken fl;
-        sampled = kept_none s.mode (4 * s.taken + 4) sm ys;
-        image = refl;
-        counts = refl;
-        plain = λ p h. (rw (code_plain p h ∙ sym code, pos), rw (code_plain p h ∙ sym code, pos) h);
-      }
+  -- the refusal is that of any plain session that is held
+  refusal_plain : (p : Plain) → Holds p s st sm → feed_refusal p.setup p.phase (lengths (length st) (length sm) (length im) (length vo)) fl ys ≡ refusal_of
+  refusal_plain p h =
+      ap (λ (q : Plain). feed_refusal q.setup q.phase (lengths (length st) (length sm) (length im) (length vo)) fl ys) (sym h.same)
 
   -- a record that no session handed back
-  pub feed_strange : code_of ≡ 0 → ended_phase s.phase ≡ false → (Sane s → ⊥) → FeedMeets s st sm im vo fl ys (fed.Took 0 s) st sm im vo
+  pub feed_strange : refusal_of ≡ Ok tt → ended_phase s.phase ≡ false → (Sane s → ⊥) → FeedMeets s st sm im vo fl ys (Ok (record { taken = 0; session = s })) st sm im vo
   feed_strange none live strange =
       record {
         number = none;
@@ -75,10 +60,10 @@ module _ (s : Session) (st : List ℕ) (sm : List Float) (im vo fl : List ℕ) (
         plain = λ p h. absurd (strange h.sane);
       }
 
-  pub feed_taken : (n : ℕ) (r : Session) (st' : List ℕ) (sm' : List Float) (im' vo' : List ℕ) → 0 ≡ code_of
-      → Ran s st sm im vo fl ys n r st' sm' im' vo' → FeedMeets s st sm im vo fl ys (fed.Took n r) st' sm' im' vo'
-  feed_taken n r st' sm' im' vo' code t =
-      let given = code_room s st sm im vo fl ys (sym code) in
+  pub feed_taken : (n : ℕ) (r : Session) (st' : List ℕ) (sm' : List Float) (im' vo' : List ℕ) → refusal_of ≡ Ok tt
+      → Ran s st sm im vo fl ys n r st' sm' im' vo' → FeedMeets s st sm im vo fl ys (Ok (record { taken = n; session = r })) st' sm' im' vo'
+  feed_taken n r st' sm' im' vo' none t =
+      let given = feed_room s st sm im vo fl ys none in
       let kept = given.kept in
       let four = given.four in
       let count = t.count in
@@ -91,7 +76,7 @@ module _ (s : Session) (st : List ℕ) (sm : List Float) (im vo fl : List ℕ) (
       let before : length (take s.taken st) ≡ s.taken = length-take-le s.taken st (omega arith) in
       let now_len : length (take r.taken st') ≡ r.taken = length-take-le r.taken st' (omega arith) in
       record {
-        number = sym code;
+        number = none;
         count = t.count;
         room = λ _. (omega arith, sym kept);
         stored = t.stored;
@@ -113,13 +98,13 @@ module _ (s : Session) (st : List ℕ) (sm : List Float) (im vo fl : List ℕ) (
               sane = t.sane;
             } in
             subst (λ (x : Plain). (took n ≡ answer x (feed_call st sm im vo fl ys)) × Holds (after x (feed_call st sm im vo fl ys)) r st' sm') h.same
-            (rw (sym code, answered), rw (sym code) (subst (λ (x : Plain). Holds x r st' sm') e holds));
+            (rw (none, answered), rw none (subst (λ (x : Plain). Holds x r st' sm') e holds));
       }
 
 -- ---- a fed flag is in the store
 
 pub fed_stored : (s : Session) (st : List ℕ) (sm : List Float) (im vo fl : List ℕ) (ys : List Float) (n : ℕ) (r : Session)
-    (st' : List ℕ) (sm' : List Float) (im' vo' : List ℕ) → FeedMeets s st sm im vo fl ys (fed.Took n r) st' sm' im' vo'
+    (st' : List ℕ) (sm' : List Float) (im' vo' : List ℕ) → FeedMeets s st sm im vo fl ys (Ok (record { taken = n; session = r })) st' sm' im' vo'
     → (k : ℕ) → k < n → get_or st' (s.taken + k) 0 ≡ get_or fl k 0
 fed_stored s st sm im vo fl ys n r st' sm' im' vo' m k h =
     let room = m.room (omega arith) in

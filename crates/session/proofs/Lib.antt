@@ -1,7 +1,6 @@
 -- Laws that the proofs of the session's functions cite, and demand 3.
 mod Steps
 mod Chunk
-mod Answers
 mod Loop
 mod Feed
 mod Rooms

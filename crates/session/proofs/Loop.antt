@@ -6,19 +6,16 @@ use mathlib.Core.List.{List, [], ◌++◌, append_assoc, append-nil}
 use Prim.Native.Nat.{ℕ, ◌+◌, ◌*◌, ◌≤◌, ◌<◌}
 use native.Mathlib.Omega.{arith}
 use lib.ListN.{length, take, drop, take-append-drop}
-use lib.Seq.{length-take-le, paste, paste-zero, length-paste, take_all, take-add}
+use lib.Seq.{length-take-le, paste, paste-zero, length-paste, take-add}
 use lib.Ieee.{Float}
-use Rattle.hough.proofs.Memory.{cleared_length}
 use Rattle.modespec.specs.Sizes.{robot}
-use Rattle.plain.specs.declared.Phase.{Phase}
-use Rattle.plain.specs.declared.Phase.TheVariants.{Searching, Collecting, Reported, Unfound, CutShort}
 use Rattle.plain.specs.Plain.{Plain, ended_phase, through}
 use Rattle.plain.proofs.Laws.{through_append, through_ended, through_nil, chunk_any}
 use Rattle.session.specs.declared.Session.{Session}
 use Rattle.session.specs.Hold.{plain_of, Known, Sane, kept_at, work_after}
 use Rattle.session.specs.Steps.{Gap, Turned, Ran}
 use Rattle.session_parts.proofs.Lists.{paste_more, piece_length}
-use Rattle.session_parts.proofs.Kept.{kept_length, kept_none, kept_more}
+use Rattle.session_parts.proofs.Kept.{kept_none, kept_more}
 use Rattle.session.proofs.Steps.{live_work}
 
 -- what a run is given
@@ -49,35 +46,13 @@ pub record Part
   pub image : im ≡ work_after s.phase 441000 im₀
   pub counts : vo ≡ work_after s.phase 144000 vo₀
 
--- ---- lengths
-
-pub work_length : (h : Phase) (n : ℕ) (w : List ℕ) → n ≤ length w → length (work_after h n w) ≡ length w
-work_length Searching n w l = refl
-work_length (Collecting s) n w l = refl
-work_length (Reported s r) n w l = cleared_length n w l
-work_length Unfound n w l = refl
-work_length (CutShort s) n w l = refl
+-- ---- the length of the flag store
 
 module _
     (s₀ : Session) (st₀ : List ℕ) (sm₀ : List Float) (im₀ vo₀ fl : List ℕ) (ys : List Float)
     (i : ℕ) (s : Session) (st : List ℕ) (sm : List Float) (im vo : List ℕ) (h : Part s₀ st₀ sm₀ im₀ vo₀ fl ys i s st sm im vo) where
   pub part_store : length st ≡ length st₀
   part_store = ap length h.stored ∙ length-paste st₀ s₀.taken fl i h.room h.count
-
-  pub part_audio : length sm ≡ length sm₀
-  part_audio =
-      let kept = h.given.kept in
-      let four = h.given.four in
-      let room = h.room in
-      let count = h.count in
-      ap length h.sampled
-      ∙ kept_length s₀.mode (4 * s₀.taken + 4) sm₀ ys (4 * i) (λ b. let w = h.given.wide b in omega arith) (omega arith)
-
-  pub part_image : length im ≡ length im₀
-  part_image = ap length h.image ∙ work_length s.phase 441000 im₀ h.given.image
-
-  pub part_counts : length vo ≡ length vo₀
-  part_counts = ap length h.counts ∙ work_length s.phase 144000 vo₀ h.given.counts
 
 -- ---- nothing taken yet
 
@@ -199,13 +174,6 @@ module _
         image = h.image;
         counts = h.counts;
       }
-
-  pub ran_whole : length fl ≤ i → Ran s₀ st₀ sm₀ im₀ vo₀ fl ys i s st sm im vo
-  ran_whole e =
-      let four = h.given.four in
-      let a : take i fl ≡ fl = take_all i fl e in
-      let b : take (4 * i) ys ≡ ys = take_all (4 * i) ys (omega arith) in
-      ran (λ known k. ap₂ (λ (f : List ℕ) (y : List Float). through (plain_of s₀ st₀ known) f y) a b)
 
   pub ran_ended : ended_phase s.phase ≡ true → Ran s₀ st₀ sm₀ im₀ vo₀ fl ys i s st sm im vo
   ran_ended e =

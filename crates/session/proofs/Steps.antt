@@ -1,21 +1,20 @@
 -- What each step of a session does to the plain session that it stands for.
 -- Assumes nothing.
-use mathlib.Core.Path.{◌≡◌, refl, sym, ◌∙◌, ap, subst⁻¹}
+use mathlib.Core.Path.{◌≡◌, refl, sym, ◌∙◌, ap}
 use mathlib.Core.Bool.{Bool, true, false, false≢true, cond}
 use mathlib.Core.List.{List}
-use Prim.Native.Nat.{ℕ, ◌+◌, ◌-◌, ◌*◌, ◌/◌, ◌≤◌, ◌<◌, ◌^◌}
+use Prim.Native.Nat.{ℕ, ◌+◌, ◌-◌, ◌*◌, ◌/◌, ◌≤◌, ◌^◌}
 use native.Mathlib.Omega.{arith}
 use lib.ListN.{length, take, drop}
 use lib.Seq.{length-take-le, take-take}
-use lib.Dec.{eqb}
 use lib.Ieee.{Float}
 use borrow.Author.Tests.{eq-eqb, ne_eqb}
+use Rattle.std.specs.Prelude.{Option, Some, None}
 use Rattle.modespec.specs.ModeSpec.{spec_of}
 use Rattle.hough.specs.Memory.{cleared}
 use Rattle.sync.specs.declared.SyncResult.{SyncResult}
 use Rattle.sync.specs.FindSync.{sync_result_of}
 use Rattle.sync_start.specs.declared.Located.{Located}
-use Rattle.sync_start.specs.declared.Located.TheVariants.{Nowhere, At}
 use Rattle.sync_start.specs.declared.Evaluation.{Evaluation}
 use Rattle.modespec.specs.Sizes.{robot, working_rate}
 use Rattle.sync_start.specs.Evaluate.{evaluation_of}
@@ -23,57 +22,11 @@ use Rattle.sync_start.proofs.Evaluations.{streak_step, other_modes, position_sma
 use Rattle.plain.specs.declared.Start.{Start}
 use Rattle.plain.specs.declared.Phase.{Phase}
 use Rattle.plain.specs.declared.Phase.TheVariants.{Searching, Collecting, Reported, Unfound, CutShort}
-use Rattle.plain.specs.Plain.{Plain, evaluating_by, reporting_by, Setup, window_of, picture_of, ended_phase, due_at, full_at, flag_of, found_phase, stir_at, evaluating, reporting, ending, end_of}
+use Rattle.plain.specs.Plain.{Plain, evaluating_by, reporting_by, window_of, picture_of, ended_phase, due_at, full_at, flag_of, found_phase, evaluating, reporting, ending, end_of}
 use Rattle.session.specs.declared.Session.{Session}
-use Rattle.session.specs.Hold.{setup_of, plain_of, position_of, Sane, work_after}
-use Rattle.session_parts.specs.Phases.{DueIn}
-use Rattle.session.specs.Steps.{Gap, in_phase, Kept, Judged, Finished, Closed, SaneTest}
+use Rattle.session.specs.Hold.{plain_of, position_of, work_after}
+use Rattle.session.specs.Steps.{Kept, Judged, Finished, Closed}
 use Rattle.plain.proofs.Lists.{drop_take}
-
--- ---- a record that no session handed back
-
-pub strange : (s : Session) → (ended_phase s.phase ≡ false → Sane s → ⊥) → SaneTest s false
-strange s h = record { yes = λ e. absurd (false≢true e); no = λ _ l k. h l k }
-
--- ---- the next event
-
-pub gap_search : (s : Session) (due r : ℕ) → s.phase ≡ Searching → DueIn s.mode s.taken due → 0 < r → r ≤ due → s.taken + r ≤ s.capacity → Gap s r
-gap_search s due r e d some le fits =
-    record {
-      some = some;
-      fits = fits;
-      calm = λ k lo hi.
-          let no : k ≡ s.capacity → ⊥ = omega arith in
-          rw (e, d.none k lo (omega arith), ne_eqb k s.capacity no);
-    }
-
-pub gap_collect : (s : Session) (x : Start) (r : ℕ) → s.phase ≡ Collecting x → 0 < r → s.taken + r ≤ s.capacity
-    → ((k : ℕ) → s.taken < k → k < s.taken + r → k ≡ full_at s.mode x → ⊥) → Gap s r
-gap_collect s x r e some fits calm =
-    record {
-      some = some;
-      fits = fits;
-      calm = λ k lo hi.
-          let no : k ≡ s.capacity → ⊥ = omega arith in
-          rw (e, ne_eqb k (full_at s.mode x) (calm k lo hi), ne_eqb k s.capacity no);
-    }
-
-stir_ended : (h : Phase) (u : Setup) (k : ℕ) → ended_phase h ≡ true → stir_at h u k ≡ eqb k u.capacity
-stir_ended Searching u k e = absurd (false≢true e)
-stir_ended (Collecting s) u k e = absurd (false≢true e)
-stir_ended (Reported s r) u k e = refl
-stir_ended Unfound u k e = refl
-stir_ended (CutShort s) u k e = refl
-
-pub gap_ended : (s : Session) (r : ℕ) → ended_phase s.phase ≡ true → 0 < r → s.taken + r ≤ s.capacity → Gap s r
-gap_ended s r e some fits =
-    record {
-      some = some;
-      fits = fits;
-      calm = λ k lo hi.
-          let no : k ≡ s.capacity → ⊥ = omega arith in
-          stir_ended s.phase (setup_of s) k e ∙ ne_eqb k s.capacity no;
-    }
 
 -- ---- the evaluation
 
@@ -115,9 +68,9 @@ heard mode j taken k streak fl sm known e h = go (robot mode) refl
         ap (λ (l : List Float). evaluation_of mode j fl l streak) (ap (λ (i : ℕ). take i sm) n ∙ sym (h r))
     go false r = other_modes mode j fl (take k sm) known streak r
 
-found_near : (l : Located) (q : Float) → ((x w : ℕ) → l ≡ At x w → x ≤ 2 ^ 62) → position_of (found_phase l q) ≤ 2 ^ 62
-found_near Nowhere q h = omega arith
-found_near (At x w) q h = h x w refl
+found_near : (l : Option Located) (q : Float) → ((x : Located) → l ≡ Some x → x.position ≤ 2 ^ 62) → position_of (found_phase l q) ≤ 2 ^ 62
+found_near None q h = omega arith
+found_near (Some x) q h = h x refl
 
 pub search_done : (s : Session) (st : List ℕ) (sm : List Float) (made : Evaluation) (next : Phase) (k j : ℕ)
     → s.phase ≡ Searching → s.mode ≤ 15 → s.taken ≤ length st → s.taken ≤ 16777216 → s.streak ≤ s.evaluations
@@ -125,12 +78,12 @@ pub search_done : (s : Session) (st : List ℕ) (sm : List Float) (made : Evalua
     → k ≡ cond (robot s.mode) (4 * s.taken + 4) 0
     → made ≡ evaluation_of s.mode j (take s.taken st) (take k sm) s.streak
     → next ≡ found_phase made.start made.quality
-    → Judged s st sm (record { mode = s.mode; anchor = s.anchor; capacity = s.capacity; taken = s.taken; evaluations = s.evaluations + 1; streak = made.streak; phase = next })
+    → Judged s st sm (record s { evaluations = s.evaluations + 1; streak = made.streak; phase = next })
 unfolding evaluating
 search_done s st sm made next k j e low fits small h due hj hk hm hn =
     let grown : made.streak ≤ s.streak + 1 = rw hm (streak_step s.mode j (take s.taken st) (take k sm) s.streak) in
-    let place : (x w : ℕ) → made.start ≡ At x w → x ≤ 2 ^ 62 =
-    λ x w p. position_small s.mode j (take s.taken st) (take k sm) s.streak x w low (omega arith) (ap (λ (v : Evaluation). v.start) (sym hm) ∙ p) in
+    let place : (x : Located) → made.start ≡ Some x → x.position ≤ 2 ^ 62 =
+    λ x p. position_small s.mode j (take s.taken st) (take k sm) s.streak x low (omega arith) (ap (λ (v : Evaluation). v.start) (sym hm) ∙ p) in
     record {
       kept = record { mode = refl; anchor = refl; capacity = refl; taken = refl };
       plain = λ known hear.
@@ -181,18 +134,17 @@ unfolding reporting
 collect_idle s x st im vo e fits before =
     finish_idle s st im vo (λ known. rw (e, length-take-le s.taken st fits, ne_eqb s.taken (full_at s.mode x) before))
 
-pub collect_done : (s : Session) (x : Start) (st im vo im' vo' : List ℕ) (r : SyncResult) (f t : ℕ) (z : Session)
+pub collect_done : (s : Session) (x : Start) (st im vo im' vo' : List ℕ) (r : SyncResult) (f t : ℕ)
     → s.phase ≡ Collecting x → s.taken ≤ length st → s.taken ≡ t → t ≡ full_at s.mode x → f ≡ flag_of x
     → r ≡ sync_result_of (spec_of s.mode) working_rate (take (t - f) (drop f st))
-    → im' ≡ cleared 441000 im → vo' ≡ cleared 144000 vo → z ≡ in_phase s (Reported x r)
-    → Finished s st im vo z im' vo'
+    → im' ≡ cleared 441000 im → vo' ≡ cleared 144000 vo
+    → Finished s st im vo (record s { phase = Reported x r }) im' vo'
 unfolding reporting
-collect_done s x st im vo im' vo' r f t z e fits at full hf hr hi hv hz =
+collect_done s x st im vo im' vo' r f t e fits at full hf hr hi hv =
     let size : t - f ≡ picture_of s.mode = omega arith in
     let part : take (picture_of s.mode) (drop f (take s.taken st)) ≡ take (t - f) (drop f st) =
     rw (at, drop_take f t st, ← size, take-take (t - f) (t - f) (drop f st) (omega arith)) in
-    subst⁻¹ (λ (v : Session). Finished s st im vo v im' vo') hz
-    (record {
+    record {
       kept = record { mode = refl; anchor = refl; capacity = refl; taken = refl };
       plain = λ known. rw (e, length-take-le s.taken st fits, eq-eqb s.taken (full_at s.mode x) (at ∙ full), ← hf, part, ← hr);
       evaluations = refl;
@@ -200,7 +152,7 @@ collect_done s x st im vo im' vo' r f t z e fits at full hf hr hi hv hz =
       near = rw e;
       image = λ _. hi;
       counts = λ _. hv;
-    })
+    }
 
 -- ---- the end
 
@@ -238,11 +190,10 @@ close_idle s before =
       work = λ n w. refl;
     }
 
-pub close_done : (s : Session) (h : Phase) (z : Session) → s.taken ≡ s.capacity → h ≡ end_of s.phase → z ≡ in_phase s h → Closed s z
+pub close_done : (s : Session) (h : Phase) → s.taken ≡ s.capacity → h ≡ end_of s.phase → Closed s (record s { phase = h })
 unfolding ending
-close_done s h z at e hz =
-    subst⁻¹ (λ (v : Session). Closed s v) hz
-    (record {
+close_done s h at e =
+    record {
       kept = record { mode = refl; anchor = refl; capacity = refl; taken = refl };
       plain = λ st known fits. rw (length-take-le s.taken st fits, eq-eqb s.taken s.capacity at, ← e);
       evaluations = refl;
@@ -250,4 +201,4 @@ close_done s h z at e hz =
       near = ap position_of e ∙ end_near s.phase;
       live = λ l _. end_live s.phase (ap ended_phase (sym e) ∙ l);
       work = λ n w. ap (λ (p : Phase). work_after p n w) e ∙ end_work s.phase n w;
-    })
+    }

@@ -1,26 +1,24 @@
 -- What the record and the stores of a session stand for, and what open, feed and read ensure (01-scope.md, "Session", "How tight").
 -- Definitions only.
-use Rattle.std.specs.Prelude.{◌≡◌, ℕ, ◌+◌, ◌*◌, ◌≤◌, ◌<◌, ◌^◌, true, false, List, length, take, Float}
+use Rattle.std.specs.Prelude.{◌≡◌, ℕ, ◌+◌, ◌*◌, ◌≤◌, ◌<◌, ◌^◌, true, false, List, length, take, Float, Result, Ok, Err}
 use Rattle.std.proofs.Math.Seq.{paste}
 use Rattle.hough.specs.Memory.{cleared}
+use Rattle.limits.specs.declared.Refusal.{Refusal}
+use Rattle.limits.specs.declared.Refusal.TheVariants as why
 use Rattle.modespec.specs.Sizes.{robot}
 use Rattle.plain.specs.declared.Phase.{Phase}
 use Rattle.plain.specs.declared.Phase.TheVariants.{Searching, Collecting, Reported, Unfound, CutShort}
 use Rattle.plain.specs.declared.End.{End}
 use Rattle.plain.specs.declared.End.TheVariants as end
+use Rattle.plain.specs.declared.Reading.{Reading}
 use Rattle.plain.specs.Plain.{Setup, Plain, ended_phase, opened}
 use Rattle.plain.specs.Point.{Point, stage_of, read_point}
-use Rattle.plain.specs.Calls.{Call, feed, read, Answer, took, gave, refused, answer, after, open_code, feed_code}
+use Rattle.plain.specs.Calls.{Call, feed, read, Answer, took, gave, refused, answer, after, open_refusal, feed_refusal}
 pub use Rattle.session_parts.specs.Stores.{kept_at}
-pub use Rattle.session_parts.specs.Codes.{setup, lengths}
+pub use Rattle.session_parts.specs.Refusals.{setup, lengths}
 pub use Rattle.session_parts.specs.Phases.{position_of, start_of}
 use Rattle.session.specs.declared.Session.{Session}
 use Rattle.session.specs.declared.Fed.{Fed}
-use Rattle.session.specs.declared.Fed.TheVariants as fed
-use Rattle.session.specs.declared.Opened.{Opened}
-use Rattle.session.specs.declared.Opened.TheVariants as op
-use Rattle.session.specs.declared.Given.{Given}
-use Rattle.session.specs.declared.Given.TheVariants as given
 
 -- ---- what a record stands for
 
@@ -64,31 +62,31 @@ pub record Holds (p : Plain) (s : Session) (flag_store : List ℕ) (sample_store
 
 -- ---- open
 
-abbrev pub OpenSays : Setup → List ℕ → List Float → List Float → Opened → List Float → Type 0
-OpenSays u flag_store sample_store first (op.Ready s) sample_store' =
-    (open_code u (length sample_store) first ≡ 0) × (sample_store' ≡ kept_at u.mode 0 first 4 sample_store) × Holds (opened u first) s flag_store sample_store'
-OpenSays u flag_store sample_store first (op.Refused k) sample_store' =
-    (open_code u (length sample_store) first ≡ k) × (0 < k) × (sample_store' ≡ sample_store)
+abbrev pub OpenSays : Setup → List ℕ → List Float → List Float → Result Session Refusal → List Float → Type 0
+OpenSays u flag_store sample_store first (Ok s) sample_store' =
+    (open_refusal u (length sample_store) first ≡ Ok tt) × (sample_store' ≡ kept_at u.mode 0 first 4 sample_store) × Holds (opened u first) s flag_store sample_store'
+OpenSays u flag_store sample_store first (Err e) sample_store' =
+    (open_refusal u (length sample_store) first ≡ Err e) × (sample_store' ≡ sample_store)
 
 -- Open. Not refused, the record and the stores stand for the plain session at its opening.
-pub record OpenMeets (mode anchor : ℕ) (flag_store : List ℕ) (sample_store first : List Float) (r : Opened) (sample_store' : List Float) : Type 0 where
+pub record OpenMeets (mode anchor : ℕ) (flag_store : List ℕ) (sample_store first : List Float) (r : Result Session Refusal) (sample_store' : List Float) : Type 0 where
   pub says : OpenSays (setup mode anchor (length flag_store)) flag_store sample_store first r sample_store'
 
 -- ---- feed
 
--- an answer by its number and values
-abbrev pub answer_of : Fed → Answer
-answer_of (fed.Took n s) = took n
-answer_of (fed.Refused k) = refused k
+-- an answer by its refusal and values
+abbrev pub answer_of : Result Fed Refusal → Answer
+answer_of (Ok f) = took f.taken
+answer_of (Err e) = refused e
 
 -- the record to go on with: a refusal returns none
-abbrev pub next_of : Session → Fed → Session
-next_of s (fed.Took n r) = r
-next_of s (fed.Refused k) = s
+abbrev pub next_of : Session → Result Fed Refusal → Session
+next_of s (Ok f) = f.session
+next_of s (Err e) = s
 
-abbrev pub count_of : Fed → ℕ
-count_of (fed.Took n s) = n
-count_of (fed.Refused k) = 0
+abbrev pub count_of : Result Fed Refusal → ℕ
+count_of (Ok f) = f.taken
+count_of (Err e) = 0
 
 -- work memory of n places: zero in that extent where `find_sync` ran, else unchanged
 abbrev pub work_after : Phase → ℕ → List ℕ → List ℕ
@@ -98,24 +96,24 @@ work_after (Reported s r) n w = cleared n w
 work_after Unfound n w = w
 work_after (CutShort s) n w = w
 
-abbrev pub fed_work : Fed → ℕ → List ℕ → List ℕ
-fed_work (fed.Took c s) n w = work_after s.phase n w
-fed_work (fed.Refused k) n w = w
+abbrev pub fed_work : Result Fed Refusal → ℕ → List ℕ → List ℕ
+fed_work (Ok f) n w = work_after f.session.phase n w
+fed_work (Err e) n w = w
 
 abbrev pub feed_call : List ℕ → List Float → List ℕ → List ℕ → List ℕ → List Float → Call
 feed_call flag_store sample_store img votes flags samples = feed (lengths (length flag_store) (length sample_store) (length img) (length votes)) flags samples
 
--- an answer against the lowest number that applies: refused with it, or not refused where there is none
-abbrev pub FeedNumber : Fed → ℕ → Type 0
-FeedNumber (fed.Took n s) code = code ≡ 0
-FeedNumber (fed.Refused k) code = (code ≡ k) × (0 < k)
+-- an answer against the refusal of the lowest number that applies: refused with it, or not refused where there is none
+abbrev pub FeedNumber : Result Fed Refusal → Result Unit Refusal → Type 0
+FeedNumber (Ok f) refusal = refusal ≡ Ok tt
+FeedNumber (Err e) refusal = refusal ≡ Err e
 
 -- Feed. On any record and memory: the refusal; no more than the piece and than F is taken, and only the stores' next places and the work
 -- memory are written. On a record and stores that stand for a plain session: its answer, and they stand for the plain session after the call.
 pub record FeedMeets
     (s : Session) (flag_store : List ℕ) (sample_store : List Float) (img votes flags : List ℕ) (samples : List Float)
-    (r : Fed) (flag_store' : List ℕ) (sample_store' : List Float) (img' votes' : List ℕ) : Type 0 where
-  pub number : FeedNumber r (feed_code (setup_of s) s.phase (lengths (length flag_store) (length sample_store) (length img) (length votes)) flags samples)
+    (r : Result Fed Refusal) (flag_store' : List ℕ) (sample_store' : List Float) (img' votes' : List ℕ) : Type 0 where
+  pub number : FeedNumber r (feed_refusal (setup_of s) s.phase (lengths (length flag_store) (length sample_store) (length img) (length votes)) flags samples)
   pub count : count_of r ≤ length flags
   pub room : 0 < count_of r → (s.taken + count_of r ≤ s.capacity) × (length flag_store ≡ s.capacity)
   pub stored : flag_store' ≡ paste flag_store s.taken flags (count_of r)
@@ -128,24 +126,24 @@ pub record FeedMeets
 
 -- ---- read
 
-abbrev pub reading : Session → End → Given
-reading s e = given.Gave (record { end = e; taken = s.taken; evaluations = s.evaluations })
+abbrev pub reading : Session → End → Result Reading Refusal
+reading s e = Ok (record { end = e; taken = s.taken; evaluations = s.evaluations })
 
-abbrev pub given_by : Phase → Session → Given
-given_by Searching s = given.Refused 11
-given_by (Collecting x) s = given.Refused 11
+abbrev pub given_by : Phase → Session → Result Reading Refusal
+given_by Searching s = Err why.NotEnded
+given_by (Collecting x) s = Err why.NotEnded
 given_by (Reported x r) s =
     reading s (end.Reported (start_of s.anchor x) x.windows x.quality r.adjusted_rate_hz r.slant_deg r.skip_samples r.sync_quality)
 given_by Unfound s = reading s end.Unfound
 given_by (CutShort x) s = reading s (end.CutShort (start_of s.anchor x) x.windows x.quality)
 
--- an answer by its number and values
-abbrev pub given_of : Given → Answer
-given_of (given.Gave g) = gave (read_point g)
-given_of (given.Refused k) = refused k
+-- an answer by its refusal and values
+abbrev pub given_of : Result Reading Refusal → Answer
+given_of (Ok g) = gave (read_point g)
+given_of (Err e) = refused e
 
 -- Read. On any record what that record says; on one that stands for a plain session its answer.
-pub record ReadMeets (s : Session) (r : Given) : Type 0 where
+pub record ReadMeets (s : Session) (r : Result Reading Refusal) : Type 0 where
   pub says : r ≡ given_by s.phase s
   pub plain : (p : Plain) (flag_store : List ℕ) (sample_store : List Float) → Holds p s flag_store sample_store → given_of r ≡ answer p read
 

@@ -2,7 +2,6 @@
 -- Definitions only.
 use Rattle.std.specs.Prelude.{◌≡◌, ℕ, ◌+◌, ◌*◌, ◌≤◌, ◌<◌, ◌^◌, Bool, true, false, List, ◌++◌, length, take, Float}
 use Rattle.std.proofs.Math.Seq.{paste}
-use Rattle.plain.specs.declared.Phase.{Phase}
 use Rattle.plain.specs.Plain.{ended_phase, stir_at, evaluating, reporting, ending, events, joined, through}
 use Rattle.session.specs.declared.Session.{Session}
 use Rattle.session.specs.Hold.{setup_of, plain_of, Known, position_of, Sane, kept_at, work_after}
@@ -11,19 +10,6 @@ pub record Gap (s : Session) (r : ℕ) : Type 0 where
   pub some : 0 < r
   pub fits : s.taken + r ≤ s.capacity
   pub calm : (k : ℕ) → s.taken < k → k < s.taken + r → stir_at s.phase (setup_of s) k ≡ false
-
--- the session in another phase
-abbrev pub in_phase : Session → Phase → Session
-in_phase s h =
-    record {
-      mode = s.mode;
-      anchor = s.anchor;
-      capacity = s.capacity;
-      taken = s.taken;
-      evaluations = s.evaluations;
-      streak = s.streak;
-      phase = h;
-    }
 
 -- the fields that no event changes
 pub record Kept (s r : Session) : Type 0 where

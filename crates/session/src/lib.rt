@@ -6,11 +6,14 @@ ghost use Rattle.modespec.specs.Sizes.{robot};
 ghost use Rattle.plain.specs.declared.Phase.TheVariants as Phase;
 ghost use Rattle.plain.specs.Plain.{ended_phase};
 ghost use Rattle.session.specs.Hold.{Sane, OpenMeets, FeedMeets, ReadMeets};
-ghost use Rattle.session.specs.Steps.{Gap, in_phase, Judged, Finished, Closed, Turned, SaneTest, Ran};
+ghost use Rattle.session.specs.Steps.{Gap, Judged, Finished, Closed, Turned, SaneTest, Ran};
 
-use plain::{Phase, Reading};
+use limits::Refusal;
+use plain::{End, Phase, Reading};
+use session_parts::refusals::Lengths;
 use session_parts::{phases, refusals, stores};
 
+// The mode stays a number: a record from the C interface may hold any, and comes back as it was.
 #[derive(Clone, Copy)]
 pub struct Session {
     pub mode: u8,
@@ -23,45 +26,30 @@ pub struct Session {
     pub phase: Phase,
 }
 
-// What the calls answer. A refusal is its number alone.
+// How many flags a feed took, and the session to go on with.
 #[derive(Clone, Copy)]
-pub enum Opened {
-    Ready(Session),
-    Refused(u8),
-}
-
-#[derive(Clone, Copy)]
-pub enum Fed {
-    Took(usize, Session),
-    Refused(u8),
-}
-
-#[derive(Clone, Copy)]
-pub enum Given {
-    Gave(Reading),
-    Refused(u8),
-}
-
-#[derive(Clone, Copy)]
-struct Progress {
-    count: usize,
-    session: Session,
+pub struct Fed {
+    pub taken: usize,
+    pub session: Session,
 }
 
 // A session at its opening. A Robot 24 or 36 sample store gets the first four samples, and no other buffer is written.
-pub fn open(mode: u8, anchor: u64, store: &[u8], audio: &mut [f32], first: &[f32]) -> Opened
+pub fn open(
+    mode: u8,
+    anchor: u64,
+    store: &[u8],
+    audio: &mut [f32],
+    first: &[f32],
+) -> Result<Session, Refusal>
     ensures { OpenMeets mode anchor store.now audio.old first.now result audio.new }
 {
     let capacity = store.len();
-    let code = refusals::open_code(mode, anchor, capacity, audio.len(), first);
-    if code != 0 {
-        return Opened::Refused(code);
-    }
+    refusals::open_refusal(mode, anchor, capacity, audio.len(), first)?;
     stores::keep_samples(mode, 0, audio, first);
-    Opened::Ready(Session {
-        mode: mode,
-        anchor: anchor,
-        capacity: capacity,
+    Ok(Session {
+        mode,
+        anchor,
+        capacity,
         taken: 0,
         evaluations: 0,
         streak: 0,
@@ -72,45 +60,22 @@ pub fn open(mode: u8, anchor: u64, store: &[u8], audio: &mut [f32], first: &[f32
 impl Session {
     // How many flags may be taken at once: up to the next event, at least 1.
     fn gap(self) -> usize
-        requires mode_bound { self.mode ≤ 15 }
         requires taken_lt_capacity { self.taken < self.capacity }
         requires capacity_bound { self.capacity ≤ 16777216 }
         ensures { Gap self result }
     {
-        let taken = self.taken;
-        let room = self.capacity - taken;
-        let phase = self.phase;
-        let mode = self.mode;
-        match phase {
-            Phase::Searching => {
-                let due = phases::due_in(mode, taken);
-                limits::min(due, room)
-            }
-            Phase::Collecting(s) => {
-                let full = phases::full(mode, s);
-                if taken < full {
-                    return limits::min(full - taken, room);
+        let room = self.capacity - self.taken;
+        match self.phase {
+            Phase::Searching => phases::due_in(self.mode, self.taken).min(room),
+            Phase::Collecting(start) => {
+                let full = phases::full(self.mode, start);
+                if self.taken < full {
+                    (full - self.taken).min(room)
+                } else {
+                    room
                 }
-                room
             }
-            Phase::Reported(_, _) => room,
-            Phase::Unfound => room,
-            Phase::CutShort(_) => room,
-        }
-    }
-
-    // The session in another phase.
-    fn with_phase(self, phase: Phase) -> Session
-        ensures { result ≡ in_phase self phase }
-    {
-        Session {
-            mode: self.mode,
-            anchor: self.anchor,
-            capacity: self.capacity,
-            taken: self.taken,
-            evaluations: self.evaluations,
-            streak: self.streak,
-            phase: phase,
+            Phase::Reported(_, _) | Phase::Unfound | Phase::CutShort(_) => room,
         }
     }
 
@@ -122,68 +87,59 @@ impl Session {
         requires evaluations_lt_taken { (self.evaluations < self.taken) × (self.streak ≤ self.evaluations) }
         ensures { Judged self store.now audio.now result }
     {
-        let phase = self.phase;
-        let Phase::Searching = phase else {
+        let Phase::Searching = self.phase else {
             return self;
         };
-        let mode = self.mode;
-        let taken = self.taken;
-        let w = phases::window(mode);
-        if taken < w {
+        let window = phases::window(self.mode);
+        if self.taken < window {
             return self;
         }
-        let first = taken - w;
+        let first = self.taken - window;
         if first % 64 != 0 {
             return self;
         }
-        let known = stores::known(mode, taken);
+        let known = stores::known(self.mode, self.taken);
         let made = sync_start::evaluate(
-            mode,
+            self.mode,
             first / 64,
-            &store[0..taken],
-            &audio[0..known],
+            &store[..self.taken],
+            &audio[..known],
             self.streak,
         );
-        let located = made.start;
-        let next = phases::found(located, made.quality);
         Session {
-            mode: mode,
-            anchor: self.anchor,
-            capacity: self.capacity,
-            taken: taken,
             evaluations: self.evaluations + 1,
             streak: made.streak,
-            phase: next,
+            phase: phases::found(made.start, made.quality),
+            ..self
         }
     }
 
     // The report of a collecting session, where it is due.
     fn finish(self, store: &[u8], img: &mut [u8], votes: &mut [u16]) -> Session
-        requires mode_bound { self.mode ≤ 15 }
         requires taken_in_bounds { (self.taken ≤ length store.now) × (self.taken ≤ 16777216) }
         requires in_bounds { (441000 ≤ length img.old) × (144000 ≤ length votes.old) }
         ensures { Finished self store.now img.old votes.old result img.new votes.new }
     {
-        let phase = self.phase;
-        let Phase::Collecting(s) = phase else {
+        let Phase::Collecting(start) = self.phase else {
             return self;
         };
-        let mode = self.mode;
-        let taken = self.taken;
-        let full = phases::full(mode, s);
-        if taken != full {
+        let full = phases::full(self.mode, start);
+        if self.taken != full {
             return self;
         }
-        let f = phases::first_flag(s);
-        let spec = modespec::for_mode(mode);
+        let first = phases::first_flag(start);
+        let spec = modespec::for_mode(self.mode);
         let report = sync::find_sync_in(
-            &store[f..full],
+            &store[first..full],
             limits::WORKING_SAMPLE_RATE_HZ,
             spec,
             img,
             votes,
         );
-        self.with_phase(Phase::Reported(s, report))
+        Session {
+            phase: Phase::Reported(start, report),
+            ..self
+        }
     }
 
     // The end at the store's last place.
@@ -193,11 +149,14 @@ impl Session {
         if self.taken != self.capacity {
             return self;
         }
-        let phase = self.phase;
-        self.with_phase(phases::end_of(phase))
+        Session {
+            phase: phases::end_of(self.phase),
+            ..self
+        }
     }
 
     // A chunk that ends at the next event or before it: stored, then asked in order for evaluation, report and end.
+    // The four buffers stay apart: the C interface lends them so, and each step lends on only those that it uses.
     fn turn(
         self,
         store: &mut [u8],
@@ -216,20 +175,10 @@ impl Session {
         requires samples_len { length samples.now ≡ 4 * length flags.now }
         ensures { Turned self store.old audio.old img.old votes.old flags.now samples.now result store.new audio.new img.new votes.new }
     {
-        let mode = self.mode;
-        let taken = self.taken;
-        let phase = self.phase;
-        stores::write_flags(&mut store[taken..], flags);
-        stores::keep_samples(mode, 4 * taken + 4, audio, samples);
-        let added = Session {
-            mode: mode,
-            anchor: self.anchor,
-            capacity: self.capacity,
-            taken: taken + flags.len(),
-            evaluations: self.evaluations,
-            streak: self.streak,
-            phase: phase,
-        };
+        let taken = self.taken + flags.len();
+        stores::write(&mut store[self.taken..], flags);
+        stores::keep_samples(self.mode, 4 * self.taken + 4, audio, samples);
+        let added = Session { taken, ..self };
         let judged = added.evaluate(store, audio);
         let finished = judged.finish(store, img, votes);
         finished.close()
@@ -239,29 +188,13 @@ impl Session {
     fn sane(self) -> bool
         ensures { SaneTest self result }
     {
-        if 15 < self.mode {
-            return false;
-        }
-        if limits::MAX_ANCHOR < self.anchor {
-            return false;
-        }
-        if self.capacity <= self.taken {
-            return false;
-        }
-        if limits::MAX_FLAGS < self.capacity {
-            return false;
-        }
-        if self.taken < self.evaluations {
-            return false;
-        }
-        if (self.evaluations as u64) < self.streak {
-            return false;
-        }
-        let phase = self.phase;
-        if limits::MAX_ANCHOR < phases::position(phase) {
-            return false;
-        }
-        true
+        self.mode <= 15
+            && self.anchor <= limits::MAX_ANCHOR
+            && self.taken < self.capacity
+            && self.capacity <= limits::MAX_FLAGS
+            && self.evaluations <= self.taken
+            && self.streak <= self.evaluations as u64
+            && phases::position(self.phase) <= limits::MAX_ANCHOR
     }
 
     // The chunks of a piece, until the piece or the session ends.
@@ -273,35 +206,31 @@ impl Session {
         votes: &mut [u16],
         flags: &[u8],
         samples: &[f32],
-    ) -> Progress
+    ) -> Fed
         requires sane { Sane self }
         requires phase_value { ended_phase self.phase ≡ false }
         requires capacity_value { self.capacity ≡ length store.old }
         requires capacity_in_bounds { robot self.mode ≡ true → 4 * self.capacity + 4 ≤ length audio.old }
         requires in_bounds { (441000 ≤ length img.old) × (144000 ≤ length votes.old) }
         requires flags_len_bound { (length flags.now ≤ 16777216) × (length samples.now ≡ 4 * length flags.now) }
-        ensures { Ran self store.old audio.old img.old votes.old flags.now samples.now result.count result.session store.new audio.new img.new votes.new }
+        ensures { Ran self store.old audio.old img.old votes.old flags.now samples.now result.taken result.session store.new audio.new img.new votes.new }
     {
-        let mut s = self;
-        let mut i: usize = 0;
-        while i < flags.len() {
-            let phase = s.phase;
-            if phases::ended(phase) {
-                break;
-            }
-            let g = s.gap();
-            let left = flags.len() - i;
-            let n = limits::min(g, left);
-            let e = i + n;
-            let from = 4 * i;
-            let to = 4 * e;
-            s = s.turn(store, audio, img, votes, &flags[i..e], &samples[from..to]);
-            i = e;
+        let mut session = self;
+        let mut taken = 0;
+        // No `for`: a step is as long as the way to the next event.
+        while taken < flags.len() && !phases::ended(session.phase) {
+            let end = taken + session.gap().min(flags.len() - taken);
+            session = session.turn(
+                store,
+                audio,
+                img,
+                votes,
+                &flags[taken..end],
+                &samples[4 * taken..4 * end],
+            );
+            taken = end;
         }
-        Progress {
-            count: i,
-            session: s,
-        }
+        Fed { taken, session }
     }
 
     // Takes flags with their samples until the piece or the session ends, and says how many.
@@ -313,58 +242,46 @@ impl Session {
         votes: &mut [u16],
         flags: &[u8],
         samples: &[f32],
-    ) -> Fed
+    ) -> Result<Fed, Refusal>
         ensures { FeedMeets self store.old audio.old img.old votes.old flags.now samples.now result store.new audio.new img.new votes.new }
     {
-        let phase = self.phase;
-        let code = refusals::feed_code(
+        refusals::feed_refusal(
             self.mode,
             self.capacity,
-            phase,
-            store.len(),
-            audio.len(),
-            img.len(),
-            votes.len(),
+            self.phase,
+            Lengths {
+                flags: store.len(),
+                samples: audio.len(),
+                img: img.len(),
+                votes: votes.len(),
+            },
             flags,
             samples,
-        );
-        if code != 0 {
-            return Fed::Refused(code);
-        }
+        )?;
         if !self.sane() {
             // No session handed this record back.
-            return Fed::Took(0, self);
+            return Ok(Fed {
+                taken: 0,
+                session: self,
+            });
         }
-        let done = self.run(store, audio, img, votes, flags, samples);
-        let n = done.count;
-        let s = done.session;
-        Fed::Took(n, s)
+        Ok(self.run(store, audio, img, votes, flags, samples))
     }
 
     // How the session ended.
-    pub fn read(self) -> Given
+    pub fn read(self) -> Result<Reading, Refusal>
         ensures { ReadMeets self result }
     {
-        let phase = self.phase;
-        let anchor = self.anchor;
-        match phase {
-            Phase::Searching => Given::Refused(11),
-            Phase::Collecting(_) => Given::Refused(11),
-            Phase::Reported(s, report) => Given::Gave(Reading {
-                end: phases::reported(anchor, s, report),
-                taken: self.taken,
-                evaluations: self.evaluations,
-            }),
-            Phase::Unfound => Given::Gave(Reading {
-                end: plain::End::Unfound,
-                taken: self.taken,
-                evaluations: self.evaluations,
-            }),
-            Phase::CutShort(s) => Given::Gave(Reading {
-                end: phases::cut_short(anchor, s),
-                taken: self.taken,
-                evaluations: self.evaluations,
-            }),
-        }
+        let end = match self.phase {
+            Phase::Searching | Phase::Collecting(_) => return Err(Refusal::NotEnded),
+            Phase::Reported(start, report) => phases::reported(self.anchor, start, report),
+            Phase::Unfound => End::Unfound,
+            Phase::CutShort(start) => phases::cut_short(self.anchor, start),
+        };
+        Ok(Reading {
+            end,
+            taken: self.taken,
+            evaluations: self.evaluations,
+        })
     }
 }

@@ -4,187 +4,146 @@
 mod reading;
 mod session_card;
 
-use lent_memory as memory;
-use session::{Fed, Given, Opened, Session};
+use lent_memory::pieces::{self, Piece};
+use lent_memory::{FLAG_MARK, Memory, SAMPLE_MARK, Sizes, Sums};
+use limits::Refusal;
+use plain::Phase;
+use replay::Case;
+use session::Session;
 
-// The session after a call, and whether the answer was right.
-#[derive(Clone, Copy)]
-pub struct Turn {
+// A session that is replayed, and the memory that its calls are lent.
+#[derive(Drop)]
+pub struct Replayed {
     pub session: Session,
-    pub right: bool,
+    pub memory: Memory,
 }
 
-pub fn wrong(session: Session) -> Turn {
-    Turn {
-        session,
-        right: false,
-    }
+// Whether the refusal recorded for a call, 0 for none, is this one.
+fn is_recorded(refusal: Refusal, x: u64) -> bool {
+    u64::from(refusal.number()) == x
 }
-
-// Whether a call is refused as it is to be.
-fn refused_by(code: u8, x: u64) -> bool {
-    x != 0 && (code as u64) == x
-}
-
-// Whether a feed is refused as it is to be, or takes as many flags as it is to take.
-fn answered_by(refused: bool, code: u8, n: usize, x: u64, y: u64) -> bool {
-    if refused {
-        return refused_by(code, x);
-    }
-    x == 0 && (n as u64) == y
-}
-
-// ---- open
 
 // The sample store after an opening: Robot 24 and 36 keep the first four samples.
-fn begun(mode: u8, audio: &[f32], first: &[f32], before: f64) -> bool {
+fn has_begun(mode: u8, audio: &[f32], first: &[f32], before: f64) -> bool {
     if modespec::has_parity_tone(mode) {
-        return memory::begins_with32(audio, first, first.len());
-    }
-    memory::sum32(audio) == before
-}
-
-pub fn opened(
-    session: Session,
-    mode: u8,
-    anchor: u64,
-    x: u64,
-    store: &[u8],
-    audio: &mut [f32],
-    first: &[f32],
-) -> Turn {
-    let before = memory::sum32(audio);
-    let answer = session::open(mode, anchor, store, audio, first);
-    match answer {
-        Opened::Refused(code) => Turn {
-            session,
-            right: refused_by(code, x) && memory::sum32(audio) == before,
-        },
-        Opened::Ready(next) => Turn {
-            session: next,
-            right: x == 0 && begun(mode, audio, first, before),
-        },
+        audio.starts_with(first)
+    } else {
+        lent_memory::sum_of_samples(audio) == before
     }
 }
 
-// ---- feed
-
-// Whether n flags of a piece are in the stores, behind what was taken before.
-fn kept(
-    session: Session,
-    store: &[u8],
-    audio: &[f32],
-    flags: &[u8],
-    samples: &[f32],
-    n: usize,
-) -> bool {
-    let taken = session.taken;
-    if taken > limits::MAX_FLAGS {
+// Whether the stores have n flags of a piece and their samples, behind what was taken before.
+fn has_kept(before: Session, memory: &Memory, lent: Sizes, piece: &Piece, n: usize) -> bool {
+    let taken = before.taken;
+    if taken > limits::MAX_FLAGS || n > limits::MAX_FLAGS {
         return false;
     }
-    if n > limits::MAX_FLAGS {
+    let (Some(store), Some(audio)) = (
+        memory.store.get(..lent.store),
+        memory.audio.get(..lent.audio),
+    ) else {
         return false;
-    }
-    if !memory::flags_kept(store, taken, flags, n) {
-        return false;
-    }
-    if !modespec::has_parity_tone(session.mode) {
-        return true;
-    }
-    memory::samples_kept(audio, 4 * taken + 4, samples, 4 * n)
-}
-
-// What a feed answered: the session to go on with, whether and by which number it was refused, and the flags taken.
-#[derive(Clone, Copy)]
-struct Told {
-    session: Session,
-    refused: bool,
-    code: u8,
-    n: usize,
-}
-
-fn heard(session: Session, answer: Fed) -> Told {
-    match answer {
-        Fed::Refused(code) => Told {
-            session,
-            refused: true,
-            code,
-            n: 0,
-        },
-        Fed::Took(n, next) => Told {
-            session: next,
-            refused: false,
-            code: 0,
-            n,
-        },
-    }
-}
-
-// Whether a feed changed nothing where it was to be refused, and kept what it took where it was not.
-fn fed_right(
-    session: Session,
-    to_refuse: bool,
-    n: usize,
-    before: memory::Sums,
-    store: &[u8],
-    audio: &[f32],
-    img: &[u8],
-    votes: &[u16],
-    flags: &[u8],
-    samples: &[f32],
-) -> bool {
-    if to_refuse {
-        return memory::same_sums(before, memory::summed(true, store, audio, img, votes));
-    }
-    kept(session, store, audio, flags, samples, n)
-}
-
-pub fn fed(
-    session: Session,
-    x: u64,
-    y: u64,
-    store: &mut [u8],
-    audio: &mut [f32],
-    img: &mut [u8],
-    votes: &mut [u16],
-    flags: &[u8],
-    samples: &[f32],
-) -> Turn {
-    let before = memory::summed(x != 0, store, audio, img, votes);
-    let answer = session.feed(store, audio, img, votes, flags, samples);
-    let told = heard(session, answer);
-    let next = told.session;
-    let right = fed_right(
-        session,
-        x != 0,
-        told.n,
-        before,
-        store,
-        audio,
-        img,
-        votes,
-        flags,
-        samples,
-    );
-    Turn {
-        session: next,
-        right: right & answered_by(told.refused, told.code, told.n, x, y),
-    }
-}
-
-// ---- read
-
-// A report has cleared the work memory, and nothing else writes it.
-pub fn given(session: Session, x: u64, y: u64, bytes: &[u8], img: &[u8], votes: &[u16]) -> Turn {
-    let answer = session.read();
-    let right = match answer {
-        Given::Refused(code) => refused_by(code, x) && memory::work_is(false, img, votes),
-        Given::Gave(reading) => x == 0
-            && reading::is_right(reading, y, bytes)
-            && memory::work_is(y == 0, img, votes),
     };
-    Turn {
-        session,
-        right: right & session_card::is_right(session, x, bytes),
+    let (Some(flags), Some(samples)) = (piece.flags.get(..n), piece.samples.get(..4 * n)) else {
+        return false;
+    };
+    lent_memory::is_kept(store, taken, flags, &FLAG_MARK)
+        && (!modespec::has_parity_tone(before.mode)
+            || lent_memory::is_kept(audio, 4 * taken + 4, samples, &SAMPLE_MARK))
+}
+
+// Whether the memory that a refused call was lent has the sums that it had before.
+fn is_unchanged(memory: &Memory, lent: Sizes, before: Option<Sums>) -> bool {
+    memory.has(lent) && before == Some(memory.sums(lent))
+}
+
+impl Replayed {
+    // What stands for a session before the first is open takes nothing.
+    pub fn new(memory: Memory) -> Replayed {
+        let session = Session {
+            mode: 0,
+            anchor: 0,
+            capacity: 0,
+            taken: 0,
+            evaluations: 0,
+            streak: 0,
+            phase: Phase::Unfound,
+        };
+        Replayed { session, memory }
+    }
+
+    // Whether an opening is right: in mode a, with anchor b, over stores of the lengths c, and with these first samples.
+    pub fn open(&mut self, case: &Case, first: &[f32]) -> bool {
+        let (store, audio) = pieces::halves(case.c);
+        if store > self.memory.store.len() || audio > self.memory.audio.len() {
+            return false;
+        }
+        let store = &self.memory.store[..store];
+        let audio = &mut self.memory.audio[..audio];
+        let mode = u8::try_from(case.a).unwrap_or(u8::MAX);
+        let before = lent_memory::sum_of_samples(audio);
+        match session::open(mode, case.b, store, audio, first) {
+            Ok(session) => {
+                self.session = session;
+                case.x == 0 && has_begun(mode, audio, first, before)
+            }
+            Err(refusal) => {
+                is_recorded(refusal, case.x) && lent_memory::sum_of_samples(audio) == before
+            }
+        }
+    }
+
+    // Whether a feed is right: it keeps what it takes, or changes nothing where it is refused.
+    pub fn feed(&mut self, case: &Case, piece: &Piece) -> bool {
+        let (store, audio) = pieces::halves(case.b);
+        let (img, votes) = pieces::halves(case.c);
+        let lent = Sizes {
+            store,
+            audio,
+            img,
+            votes,
+        };
+        if !self.memory.has(lent) {
+            return false;
+        }
+        let refused = case.x != 0;
+        let before = if refused {
+            Some(self.memory.sums(lent))
+        } else {
+            None
+        };
+        let session = self.session;
+        let answer = session.feed(
+            &mut self.memory.store[..store],
+            &mut self.memory.audio[..audio],
+            &mut self.memory.img[..img],
+            &mut self.memory.votes[..votes],
+            &piece.flags,
+            &piece.samples,
+        );
+        match answer {
+            Ok(fed) => {
+                self.session = fed.session;
+                !refused
+                    && fed.taken as u64 == case.y
+                    && has_kept(session, &self.memory, lent, piece, fed.taken)
+            }
+            Err(refusal) => {
+                is_recorded(refusal, case.x) && is_unchanged(&self.memory, lent, before)
+            }
+        }
+    }
+
+    // Whether a read is right, and the session's card with it. A report has cleared the work memory, and nothing else writes it.
+    pub fn read(&self, case: &Case) -> bool {
+        let right = match self.session.read() {
+            Ok(reading) => {
+                case.x == 0
+                    && reading::is_right(reading, case.y, &case.payload)
+                    && self.memory.work_is(case.y == 0)
+            }
+            Err(refusal) => is_recorded(refusal, case.x) && self.memory.work_is(false),
+        };
+        right && session_card::is_right(self.session, case)
     }
 }

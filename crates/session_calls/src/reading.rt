@@ -1,33 +1,23 @@
 // What a read gives, against the nine words of a record's payload.
-use hough::SlantDeg;
 use plain::{End, Reading};
+use replay::Pattern;
 
 // Word k of a reading's nine.
 fn word(words: &[u8], k: usize) -> u64 {
     if k < words.len() / 8 {
-        return replay::word(words, 8 * k);
+        replay::word(words, 8 * k)
+    } else {
+        0
     }
-    0
 }
 
 fn float_is(words: &[u8], k: usize, x: f32) -> bool {
-    replay::same_bits32(x, replay::low_half(word(words, k)))
-}
-
-fn slant_is(slant: SlantDeg, bits: u64) -> bool {
-    match slant {
-        SlantDeg::None => bits == u64::MAX,
-        SlantDeg::Degrees(x) => replay::same_bits(x, bits),
-    }
+    x.has_pattern(replay::low_half(word(words, k)))
 }
 
 // Whether the words from number k on are 0, as they are of what an end lacks.
 fn no_more(words: &[u8], k: usize) -> bool {
-    (k > 2 || (word(words, 2) == 0 && word(words, 3) == 0 && word(words, 4) == 0))
-        && word(words, 5) == 0
-        && word(words, 6) == 0
-        && word(words, 7) == 0
-        && word(words, 8) == 0
+    (k..9).all(|i| word(words, i) == 0)
 }
 
 fn end_is(end: End, y: u64, words: &[u8]) -> bool {
@@ -43,10 +33,10 @@ fn end_is(end: End, y: u64, words: &[u8]) -> bool {
         } => {
             y == 0
                 && start == word(words, 2)
-                && windows as u64 == word(words, 3)
+                && u64::from(windows) == word(words, 3)
                 && float_is(words, 4, start_quality)
-                && replay::same_bits(rate, word(words, 5))
-                && slant_is(slant, word(words, 6))
+                && rate.has_pattern(word(words, 5))
+                && replay::is_recorded(slant, word(words, 6))
                 && replay::signed_bits(skip) == word(words, 7)
                 && float_is(words, 8, quality)
         }
@@ -58,7 +48,7 @@ fn end_is(end: End, y: u64, words: &[u8]) -> bool {
         } => {
             y == 2
                 && start == word(words, 2)
-                && windows as u64 == word(words, 3)
+                && u64::from(windows) == word(words, 3)
                 && float_is(words, 4, start_quality)
                 && no_more(words, 5)
         }
@@ -67,8 +57,7 @@ fn end_is(end: End, y: u64, words: &[u8]) -> bool {
 
 // Whether a reading is the one that the payload has.
 pub fn is_right(reading: Reading, y: u64, words: &[u8]) -> bool {
-    let end = reading.end;
     (reading.taken as u64) == word(words, 0)
         && (reading.evaluations as u64) == word(words, 1)
-        && end_is(end, y, words)
+        && end_is(reading.end, y, words)
 }

@@ -58,11 +58,3 @@ kept_more m t i n sm ys p wide le hp hn = go (robot m) refl
         ∙ paste_more sm ys (4 * t + 4) (4 * i) (4 * n) p (wide r) le hp hn
         ∙ ap (λ (k : ℕ). paste sm (4 * t + 4) ys k) (sym more)
     go false r = refl
-
--- the samples lent to an evaluation are there
-pub known_fits : (m t k n : ℕ) → k ≡ cond (robot m) (4 * t + 4) 0 → (robot m ≡ true → 4 * t + 4 ≤ n) → k ≤ n
-known_fits m t k n e h = rw e (go (robot m) h)
-  where
-    go : (b : Bool) → (b ≡ true → 4 * t + 4 ≤ n) → cond b (4 * t + 4) 0 ≤ n
-    go true h = h refl
-    go false h = omega arith

@@ -1,4 +1,4 @@
--- What the stores, the phases and the numbers of a session's calls are. Definitions only.
+-- What the stores, the phases and the refusals of a session's calls are. Definitions only.
 pub mod Stores
-pub mod Codes
+pub mod Refusals
 pub mod Phases

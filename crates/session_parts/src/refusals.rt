@@ -1,117 +1,118 @@
-// The numbers of refused calls: the lowest that applies, 0 for none.
+// Why calls are refused: the first cause that applies, in the order of their numbers.
 ghost use Rattle.std.specs.Prelude.{◌≡◌, ℕ, length};
-ghost use Rattle.plain.specs.Calls.{short_samples, open_code, memory_code, sound_code, feed_code};
-ghost use Rattle.session_parts.specs.Codes.{setup, lengths};
+ghost use Rattle.plain.specs.Calls.{short_samples, open_refusal, memory_refusal, sound_refusal, feed_refusal};
+ghost use Rattle.session_parts.specs.Refusals.{setup, lengths};
 
 use crate::phases;
+use limits::Refusal;
 use plain::Phase;
+
+// How long the stores and the work memory are that a caller lends.
+#[derive(Clone, Copy)]
+pub struct Lengths {
+    pub flags: usize,
+    pub samples: usize,
+    pub img: usize,
+    pub votes: usize,
+}
 
 // Whether a Robot 24 or 36 sample store is below 4F + 4.
 pub fn short_samples(mode: u8, capacity: usize, samples: usize) -> bool
     ensures { result ≡ short_samples mode capacity samples }
 {
-    if modespec::has_parity_tone(mode) {
-        return samples / 4 <= capacity;
-    }
-    false
+    modespec::has_parity_tone(mode) && samples / 4 <= capacity
 }
 
-pub fn open_code(mode: u8, anchor: u64, capacity: usize, samples: usize, first: &[f32]) -> u8
-    ensures { result ≡ open_code (setup mode anchor capacity) samples first.now }
+#[tactic(auto, unfolding(plain::specs::Calls::open_refusal))]
+pub fn open_refusal(
+    mode: u8,
+    anchor: u64,
+    capacity: usize,
+    samples: usize,
+    first: &[f32],
+) -> Result<(), Refusal>
+    ensures { result ≡ open_refusal (setup mode anchor capacity) samples first.now }
 {
-    if 15 < mode {
-        return 1;
+    if mode > 15 {
+        return Err(Refusal::Mode);
     }
-    if limits::MAX_ANCHOR < anchor {
-        return 4;
+    if anchor > limits::MAX_ANCHOR {
+        return Err(Refusal::Anchor);
     }
     if capacity < phases::window(mode) + phases::picture(mode) {
-        return 5;
+        return Err(Refusal::Memory);
     }
-    if limits::MAX_FLAGS < capacity {
-        return 5;
+    if capacity > limits::MAX_FLAGS {
+        return Err(Refusal::Memory);
     }
     if short_samples(mode, capacity, samples) {
-        return 5;
+        return Err(Refusal::Memory);
     }
     if first.len() != 4 {
-        return 6;
+        return Err(Refusal::Length);
     }
     if limits::any_unsound(first) {
-        return 8;
+        return Err(Refusal::Sample);
     }
-    0
+    Ok(())
 }
 
-// The part of a feed's number that the lender of the memory answers for.
-pub fn memory_code(
-    mode: u8,
-    capacity: usize,
-    store: usize,
-    audio: usize,
-    img: usize,
-    votes: usize,
-) -> u8
-    ensures { result ≡ memory_code mode capacity (lengths store audio img votes) }
+// The part of a feed's refusal that the lender of the memory answers for.
+#[tactic(auto, unfolding(plain::specs::Calls::memory_refusal))]
+pub fn memory_refusal(mode: u8, capacity: usize, lent: Lengths) -> Result<(), Refusal>
+    ensures { result ≡ memory_refusal mode capacity (lengths lent.flags lent.samples lent.img lent.votes) }
 {
-    if store != capacity {
-        return 5;
+    if lent.flags != capacity {
+        return Err(Refusal::Memory);
     }
-    if short_samples(mode, capacity, audio) {
-        return 5;
+    if short_samples(mode, capacity, lent.samples) {
+        return Err(Refusal::Memory);
     }
-    if img < limits::IMG_BYTES {
-        return 5;
+    if lent.img < limits::IMG_BYTES {
+        return Err(Refusal::Memory);
     }
-    if votes < limits::VOTE_CELLS {
-        return 5;
+    if lent.votes < limits::VOTE_CELLS {
+        return Err(Refusal::Memory);
     }
-    0
+    Ok(())
 }
 
 // The part that the sound source answers for.
-pub fn sound_code(flags: &[u8], samples: &[f32]) -> u8
-    ensures { result ≡ sound_code flags.now samples.now }
+#[tactic(auto, unfolding(plain::specs::Calls::sound_refusal))]
+pub fn sound_refusal(flags: &[u8], samples: &[f32]) -> Result<(), Refusal>
+    ensures { result ≡ sound_refusal flags.now samples.now }
 {
-    if limits::MAX_FLAGS < flags.len() {
-        return 6;
+    if flags.len() > limits::MAX_FLAGS {
+        return Err(Refusal::Length);
     }
     if samples.len() != 4 * flags.len() {
-        return 6;
+        return Err(Refusal::Length);
     }
     if !limits::all_at_most(1, flags) {
-        return 7;
+        return Err(Refusal::Flag);
     }
     if limits::any_unsound(samples) {
-        return 8;
+        return Err(Refusal::Sample);
     }
-    0
+    Ok(())
 }
 
-// The number of the refusal of a feed. No anchor changes it.
-pub fn feed_code(
+// The refusal of a feed. No anchor changes it.
+#[tactic(auto, unfolding(plain::specs::Calls::feed_refusal))]
+pub fn feed_refusal(
     mode: u8,
     capacity: usize,
     phase: Phase,
-    store: usize,
-    audio: usize,
-    img: usize,
-    votes: usize,
+    lent: Lengths,
     flags: &[u8],
     samples: &[f32],
-) -> u8
-    ensures { (anchor : ℕ) → result ≡ feed_code (setup mode anchor capacity) phase (lengths store audio img votes) flags.now samples.now }
+) -> Result<(), Refusal>
+    ensures { (anchor : ℕ) → result ≡ feed_refusal (setup mode anchor capacity) phase (lengths lent.flags lent.samples lent.img lent.votes) flags.now samples.now }
 {
-    let memory = memory_code(mode, capacity, store, audio, img, votes);
-    if memory != 0 {
-        return memory;
-    }
-    let sound = sound_code(flags, samples);
-    if sound != 0 {
-        return sound;
-    }
+    memory_refusal(mode, capacity, lent)?;
+    sound_refusal(flags, samples)?;
     if phases::ended(phase) {
-        return 10;
+        return Err(Refusal::Ended);
     }
-    0
+    Ok(())
 }

@@ -3,26 +3,12 @@ ghost use Rattle.std.specs.Prelude.{◌≡◌, ◌+◌, ◌*◌, ◌≤◌, true
 ghost use Rattle.modespec.specs.Sizes.{robot};
 ghost use Rattle.session_parts.specs.Stores.{kept_at};
 
-pub fn write_flags(tail: &mut [u8], piece: &[u8])
+// Writes a piece at the front of a tail, of flags or of samples.
+pub fn write<T: Copy>(tail: &mut [T], piece: &[T])
     requires { length piece.now ≤ length tail.old }
     ensures { tail.new ≡ piece.now ++ drop (length piece.now) tail.old }
 {
-    let mut i: usize = 0;
-    while i < piece.len() {
-        tail[i] = piece[i];
-        i += 1;
-    }
-}
-
-pub fn write_samples(rest: &mut [f32], piece: &[f32])
-    requires { length piece.now ≤ length rest.old }
-    ensures { rest.new ≡ piece.now ++ drop (length piece.now) rest.old }
-{
-    let mut k: usize = 0;
-    while k < piece.len() {
-        rest[k] = piece[k];
-        k += 1;
-    }
+    tail[..piece.len()].copy_from_slice(piece);
 }
 
 // The samples taken, from a place of the sample store on. Only Robot 24 and 36 keep them.
@@ -31,7 +17,7 @@ pub fn keep_samples(mode: u8, at: usize, audio: &mut [f32], piece: &[f32])
     ensures { audio.new ≡ kept_at mode at piece.now (length piece.now) audio.old }
 {
     if modespec::has_parity_tone(mode) {
-        write_samples(&mut audio[at..], piece);
+        write(&mut audio[at..], piece);
     }
 }
 
@@ -41,7 +27,8 @@ pub fn known(mode: u8, taken: usize) -> usize
     ensures { result ≡ (if robot mode then 4 * taken + 4 else 0) }
 {
     if modespec::has_parity_tone(mode) {
-        return 4 * taken + 4;
+        4 * taken + 4
+    } else {
+        0
     }
-    0
 }

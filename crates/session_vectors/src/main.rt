@@ -7,120 +7,61 @@
 // Operation 2, read: refusal x, end y, and nine words in the payload. Behind them stand the 56 bytes of the session's card.
 #![tactic(auto)]
 
-mod records;
-
-use plain::Phase;
-use replay::tally::Tally;
-use replay::{Long, tally};
-use session::Session;
+use lent_memory::pieces::Piece;
+use lent_memory::{Memory, Sizes};
+use replay::tally::Verdict;
+use replay::{Case, payload};
+use session_calls::Replayed;
+use std::alloc::{AllocError, Global};
 use std::io;
-use std::io::Read;
 
-// The session that goes on, and what is counted.
-#[derive(Clone, Copy)]
-struct Point {
-    session: Session,
-    tally: Tally,
+// The most that a record lends.
+const MOST: Sizes = Sizes {
+    store: 773825,
+    audio: 452065,
+    img: 441000,
+    votes: 144000,
+};
+
+// An opening. One that is not to be refused begins a session over marked memory.
+fn open_is_right(replayed: &mut Replayed, case: &Case, alloc: Global) -> Result<bool, AllocError> {
+    let patterns = payload::half_word_list(&case.payload, alloc)?;
+    let first = payload::float_list(&patterns, alloc)?;
+    if first.len() as u64 != case.y {
+        return Ok(false);
+    }
+    let right = replayed.open(case, &first);
+    if case.x == 0 {
+        replayed.memory.mark();
+    }
+    Ok(right)
 }
 
-// What stands for a session before the first is open. It takes nothing.
-fn unopened() -> Session {
-    let phase = Phase::Unfound;
-    Session {
-        mode: 0,
-        anchor: 0,
-        capacity: 0,
-        taken: 0,
-        evaluations: 0,
-        streak: 0,
-        phase,
+fn feed_is_right(replayed: &mut Replayed, case: &Case, alloc: Global) -> Result<bool, AllocError> {
+    match Piece::read(case.a, &case.payload, alloc)? {
+        Some(piece) => Ok(replayed.feed(case, &piece)),
+        None => Ok(false),
     }
 }
 
-// Takes one record.
-fn one(
-    file: &mut impl Read,
-    session: Session,
-    t: Tally,
-    store: &mut [u8; 773825],
-    audio: &mut [f32; 452065],
-    img: &mut [u8; 441000],
-    votes: &mut [u16; 144000],
-    flags: &mut [u8; 110000],
-    samples: &mut [f32; 440000],
-) -> io::Result<Point> {
-    match replay::next_long(file)? {
-        Long::End => {
-            let tally = tally::ended(t);
-            Ok(Point { session, tally })
-        }
-        Long::Cut => {
-            let tally = tally::cut(t);
-            Ok(Point { session, tally })
-        }
-        Long::Case {
-            op,
-            a,
-            b,
-            c,
-            x,
-            y,
-            z: _,
-            n,
-        } => {
-            let h = records::Head { op, a, b, c, x, y };
-            let turn = records::record(
-                file, session, h, n, store, audio, img, votes, flags, samples,
-            )?;
-            let next = turn.session;
-            let tally = tally::counted(t, op, turn.right);
-            Ok(Point {
-                session: next,
-                tally,
-            })
-        }
+// Whether the answer of a call is right. An operation that there is not is wrong.
+fn is_right(replayed: &mut Replayed, case: &Case, alloc: Global) -> Result<bool, AllocError> {
+    match case.op {
+        0 => open_is_right(replayed, case, alloc),
+        1 => feed_is_right(replayed, case, alloc),
+        2 => Ok(replayed.read(case)),
+        _ => Ok(false),
     }
-}
-
-fn all(
-    file: &mut impl Read,
-    store: &mut [u8; 773825],
-    audio: &mut [f32; 452065],
-    img: &mut [u8; 441000],
-    votes: &mut [u16; 144000],
-    flags: &mut [u8; 110000],
-    samples: &mut [f32; 440000],
-) -> io::Result<Tally> {
-    let mut t = tally::start();
-    let mut s = unopened();
-    let mut turns = u64::MAX;
-    while turns > 0 && t.more {
-        let next = one(file, s, t, store, audio, img, votes, flags, samples)?;
-        s = next.session;
-        t = next.tally;
-        turns -= 1;
-    }
-    Ok(t)
 }
 
 fn main(rt: HostRuntime) -> io::Result<()> {
-    let Some(mut file) = replay::opened(&rt, "vectors") else {
-        return Ok(());
-    };
-    let mut store = [0u8; 773825];
-    let mut audio = [0.0f32; 452065];
-    let mut img = [0u8; 441000];
-    let mut votes = [0u16; 144000];
-    let mut flags = [0u8; 110000];
-    let mut samples = [0.0f32; 440000];
-    let t = all(
-        &mut file,
-        &mut store,
-        &mut audio,
-        &mut img,
-        &mut votes,
-        &mut flags,
-        &mut samples,
-    )?;
-    tally::report(&rt, b"open feed read", t)
+    let alloc = rt.alloc();
+    let mut replayed = Replayed::new(Memory::new(MOST, alloc)?);
+    replay::run(&rt, alloc, &["open", "feed", "read"], |case: Case| {
+        let right = is_right(&mut replayed, &case, alloc)?;
+        Ok(Verdict {
+            kind: case.op,
+            right,
+        })
+    })
 }

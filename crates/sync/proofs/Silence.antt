@@ -16,7 +16,7 @@ use Rattle.modespec.specs.Sizes.{radio_lines, pulse_columns, image_probes, line_
 use Rattle.modespec.proofs.Rows.{holds, radio_lines_lem}
 use Rattle.columns.specs.Columns.{probe_of}
 use Rattle.columns.proofs.Lists.{get_d_list}
-use Rattle.hough.specs.declared.SlantDeg.TheVariants as SlantDeg
+use Rattle.std.specs.Prelude.{None, Ok}
 use Rattle.hough.specs.Pass.{pass_of}
 use Rattle.hough.specs.Passes.{passes_from, passes_of}
 use Rattle.hough.proofs.Meaning.{zero_flags}
@@ -30,10 +30,9 @@ use Rattle.pulse.proofs.Sorting.{count_all, median_is}
 use Rattle.pulse.proofs.Answers.{edge_none, quality_some}
 use Rattle.sync.specs.Fold.{line_seconds, column_seconds, flag_at, fold_flag, column_count, fold_of}
 use Rattle.sync.specs.declared.SyncResult.{SyncResult}
-use Rattle.sync.specs.declared.SyncAnswer.TheVariants.{Found}
-use Rattle.sync.specs.FindSync.{skip_of, aligned_by, aligned_of, sync_result_of, silent_result, rate_allowed, answer_by, sync_answer}
+use Rattle.sync.specs.FindSync.{skip_of, aligned_by, aligned_of, sync_result_of, silent_result, rate_allowed, sync_answer}
 use Rattle.sync.proofs.Folding.{fold_length}
-use Rattle.sync.proofs.Refusals.{refuse_flag}
+use Rattle.sync.proofs.Refusals.{refuse_none}
 
 take_zeros : (n : ℕ) (l : List ℕ) → ((k : ℕ) → get_or l k 0 ≡ 0) → (k : ℕ) → get_or (take n l) k 0 ≡ 0
 take_zeros zero l h k = refl
@@ -42,7 +41,7 @@ take_zeros (suc n) (x ∷ l) h zero = h 0
 take_zeros (suc n) (x ∷ l) h (suc k) = take_zeros n l (λ j. h (suc j)) k
 
 -- no slant, and the rate stays
-passes_zeros : (spec : ModeSpec) (rate : Float) (flags : List ℕ) → ((k : ℕ) → get_or flags k 0 ≡ 0) → passes_of spec rate flags ≡ record { rate = rate; slant_deg = SlantDeg.None }
+passes_zeros : (spec : ModeSpec) (rate : Float) (flags : List ℕ) → ((k : ℕ) → get_or flags k 0 ≡ 0) → passes_of spec rate flags ≡ record { rate = rate; slant_deg = None }
 unfolding passes_of passes_from
 passes_zeros spec rate flags h = rw (zero_flags (pass_of flags rate spec (line_width spec)) h)
 
@@ -121,8 +120,8 @@ silent mode rate flags h =
     ∙ parts (ap (λ (e : ℕ). skip_of e spec rate) (edge_zeros counts size none)) (quality_zeros counts size none mode)
   where
     parts : {k k' : ℤ} {x x' : Float} → k ≡ k' → x ≡ x'
-        → ◌≡◌ {A = SyncResult} (record { adjusted_rate_hz = rate; skip_samples = k; slant_deg = SlantDeg.None; sync_quality = x })
-        (record { adjusted_rate_hz = rate; skip_samples = k'; slant_deg = SlantDeg.None; sync_quality = x' })
+        → ◌≡◌ {A = SyncResult} (record { adjusted_rate_hz = rate; skip_samples = k; slant_deg = None; sync_quality = x })
+        (record { adjusted_rate_hz = rate; skip_samples = k'; slant_deg = None; sync_quality = x' })
     parts a b = cc
 
 at_most_one : (flags : List ℕ) → ((k : ℕ) → get_or flags k 0 ≡ 0) → all_at_most 1 flags ≡ true
@@ -132,8 +131,8 @@ at_most_one (x ∷ l) h = rw (h 0, at_most_one l (λ k. h (suc k)))
 
 -- the call: whatever the work memory holds
 pub silent_answer : (mode : ℕ) (rate : Float) (flags img votes : List ℕ) → mode ≤ 15 → rate_allowed rate ≡ true → 441000 ≤ length img → 144000 ≤ length votes
-    → length flags ≤ 16777216 → ((k : ℕ) → get_or flags k 0 ≡ 0) → sync_answer flags rate mode img votes ≡ Found (silent_result (spec_of mode) rate)
+    → length flags ≤ 16777216 → ((k : ℕ) → get_or flags k 0 ≡ 0) → sync_answer flags rate mode img votes ≡ Ok (silent_result (spec_of mode) rate)
 unfolding sync_answer
 silent_answer mode rate flags img votes m r i v n h =
-    let e = refuse_flag flags rate mode (length img) (length votes) m r i v n true (at_most_one flags h) in
-    ap (λ (k : ℕ). answer_by k (sync_result_of (spec_of mode) rate flags)) (sym e) ∙ ap Found (silent mode rate flags h)
+    let e = refuse_none flags rate mode (length img) (length votes) m r i v n (at_most_one flags h) in
+    rw e (ap Ok (silent mode rate flags h))

@@ -1,8 +1,10 @@
 -- `find_sync` (01-scope.md, "Slant and rate", "Numbers given by cause", "Known answers"): what it answers, and what it does to the work memory.
 -- Definitions only.
-use Rattle.std.specs.Prelude.{◌≡◌, ℕ, zero, suc, ◌≤◌, Bool, false, not, ◌&&◌, ◌||◌, List, [], ◌∷◌, length, take, ltb, ℤ, pos, Float}
+use Rattle.std.specs.Prelude.{◌≡◌, ℕ, ◌≤◌, Bool, false, not, ◌&&◌, ◌||◌, List, [], ◌∷◌, length, take, ltb, ℤ, pos, Float, None, Result, Ok, Err}
 use Rattle.std.specs.Float.{fin, binary64}
 use Rattle.std.specs.Float.Ieee.{add, sub, mul, div, le, of_int, to_signed}
+use Rattle.limits.specs.declared.Refusal.{Refusal}
+use Rattle.limits.specs.declared.Refusal.TheVariants as why
 use Rattle.limits.specs.Refusals.{◌⇒◌, first_of}
 use Rattle.limits.specs.Ranges.{any_above}
 use Rattle.ieee.specs.Numbers.{of_nat}
@@ -11,15 +13,12 @@ use Rattle.modespec.specs.declared.ModeSpec.{ModeSpec}
 use Rattle.modespec.specs.ModeSpec.{spec_of}
 use Rattle.modespec.specs.Sizes.{radio_lines, skip_correction, image_probes, line_width}
 use Rattle.hough.specs.declared.Passes.{Passes}
-use Rattle.hough.specs.declared.SlantDeg.TheVariants.{None}
 use Rattle.hough.specs.Memory.{cleared}
 use Rattle.hough.specs.Passes.{passes_of}
 use Rattle.pulse.specs.Quality.{PulseFits, quality_of}
 use Rattle.pulse.specs.Edge.{edge_of}
 use Rattle.sync.specs.Fold.{fold_of}
 use Rattle.sync.specs.declared.SyncResult.{SyncResult}
-use Rattle.sync.specs.declared.SyncAnswer.{SyncAnswer}
-use Rattle.sync.specs.declared.SyncAnswer.TheVariants.{Found, Refused}
 
 -- `skip_seconds_for`: (edge / 700) * L - S, and the mode's correction
 unfoldable pub skip_seconds : ℕ → ModeSpec → Float
@@ -74,34 +73,34 @@ unfoldable pub rate_allowed : Float → Bool
 unfolding le of_int
 rate_allowed rate = le (of_nat 8000) rate && le rate (of_nat 48000)
 
--- the lowest number that applies, or 0: mode, rate, work memory, how many flags, a flag
-unfoldable pub sync_refusal : List ℕ → Float → ℕ → ℕ → ℕ → ℕ
+-- the first cause that applies, or none: mode, rate, work memory, how many flags, a flag
+unfoldable pub sync_refusal : List ℕ → Float → ℕ → ℕ → ℕ → Result Unit Refusal
 sync_refusal flags rate mode img_places votes_places =
     first_of
-    ((ltb 15 mode ⇒ 1)
-    ∷ (not (rate_allowed rate) ⇒ 2)
-    ∷ ((ltb img_places 441000 || ltb votes_places 144000) ⇒ 5)
-    ∷ (ltb 16777216 (length flags) ⇒ 6)
-    ∷ (any_above flags ⇒ 7)
+    ((ltb 15 mode ⇒ why.Mode)
+    ∷ (not (rate_allowed rate) ⇒ why.Rate)
+    ∷ ((ltb img_places 441000 || ltb votes_places 144000) ⇒ why.Memory)
+    ∷ (ltb 16777216 (length flags) ⇒ why.Length)
+    ∷ (any_above flags ⇒ why.Flag)
     ∷ [])
 
-abbrev pub answer_by : ℕ → SyncResult → SyncAnswer
-answer_by zero result = Found result
-answer_by (suc n) result = Refused (suc n)
+abbrev pub answer_by : Result Unit Refusal → SyncResult → Result SyncResult Refusal
+answer_by (Ok u) result = Ok result
+answer_by (Err e) result = Err e
 
 -- a refusal writes nothing
-abbrev pub memory_by : ℕ → ℕ → List ℕ → List ℕ
-memory_by zero extent memory = cleared extent memory
-memory_by (suc n) extent memory = memory
+abbrev pub memory_by : Result Unit Refusal → ℕ → List ℕ → List ℕ
+memory_by (Ok u) extent memory = cleared extent memory
+memory_by (Err e) extent memory = memory
 
-unfoldable pub sync_answer : List ℕ → Float → ℕ → List ℕ → List ℕ → SyncAnswer
+unfoldable pub sync_answer : List ℕ → Float → ℕ → List ℕ → List ℕ → Result SyncResult Refusal
 sync_answer flags rate mode img votes = answer_by (sync_refusal flags rate mode (length img) (length votes)) (sync_result_of (spec_of mode) rate flags)
 
 unfoldable pub memory_after : List ℕ → Float → ℕ → List ℕ → List ℕ → ℕ → List ℕ → List ℕ
 memory_after flags rate mode img votes extent memory = memory_by (sync_refusal flags rate mode (length img) (length votes)) extent memory
 
 -- the call's answer and both memories
-pub record SyncCall (flags : List ℕ) (rate : Float) (mode : ℕ) (r : SyncAnswer) (im im' vo vo' : List ℕ) : Type 0 where
+pub record SyncCall (flags : List ℕ) (rate : Float) (mode : ℕ) (r : Result SyncResult Refusal) (im im' vo vo' : List ℕ) : Type 0 where
   pub answer : r ≡ sync_answer flags rate mode im vo
   pub img : im' ≡ memory_after flags rate mode im vo 441000 im
   pub votes : vo' ≡ memory_after flags rate mode im vo 144000 vo

@@ -1,15 +1,13 @@
 -- Laws of an evaluation for the session: the streak, the flags and samples that are read, the bounds on a start and its count. Assumes nothing.
-use Rattle.std.proofs.Common.{◌≡◌, ℕ, ◌+◌, ◌*◌, ◌^◌, ◌<◌, ◌≤◌, min, Bool, true, false, cond, ltb, List, [], ◌++◌, length, get_or, take, drop, pos, sym, refl, ◌∙◌, le_trans, le_of_lt, arith, lit<, lit≤, length-take, get_or-take}
+use Rattle.std.proofs.Common.{◌≡◌, ℕ, ◌+◌, ◌*◌, ◌^◌, ◌<◌, ◌≤◌, min, Bool, true, false, cond, ltb, List, [], ◌++◌, length, get_or, take, drop, pos, sym, refl, ◌∙◌, le_trans, le_of_lt, arith, lit<, lit≤, length-take, get_or-take, Option, Some, None}
 use mathlib.Core.List.Memᴰ
 use mathlib.Core.List.{Memᴰ}
 use lib.Ieee.{Float, fin, lt}
 use lib.Seq.{take-append-le}
 use Rattle.modespec.specs.ModeSpec.{spec_of}
 use Rattle.modespec.specs.Sizes.{robot, line_samples, window_lines, pulse_columns}
-use Rattle.first_line.specs.declared.FirstLine.{FirstLine}
-use Rattle.first_line.specs.declared.FirstLine.TheVariants.{Missing, Line}
 use Rattle.sync_start.specs.declared.Evaluation.{Evaluation}
-use Rattle.sync_start.specs.declared.Located.TheVariants.{Nowhere, At}
+use Rattle.sync_start.specs.declared.Located.{Located}
 use Rattle.sync_start.specs.Evaluate.{counts_of, line_in, column_of, windows_of, line_start, even_start, position_of, located_by, window_quality, streak_after, start_quality, locate_in, locate_of, reads_by, reads_in, evaluation_by, taken_at, known_at, evaluation_of, reads_of, parity_reads}
 use Rattle.window_fold.specs.Fold.{fold_of}
 use Rattle.line_parity.specs.Parity.{odd_line}
@@ -46,8 +44,8 @@ same_start mode j flags s t streak h = at (ltb (streak_after (window_quality mod
   where
     at : (b : Bool) → ltb (streak_after (window_quality mode j flags) streak) 3 ≡ b
         → ◌≡◌ {A = Evaluation}
-        (record { quality = window_quality mode j flags; streak = streak_after (window_quality mode j flags) streak; start = cond (ltb (streak_after (window_quality mode j flags) streak) 3) Nowhere (locate_of mode j flags s) })
-        (record { quality = window_quality mode j flags; streak = streak_after (window_quality mode j flags) streak; start = cond (ltb (streak_after (window_quality mode j flags) streak) 3) Nowhere (locate_of mode j flags t) })
+        (record { quality = window_quality mode j flags; streak = streak_after (window_quality mode j flags) streak; start = cond (ltb (streak_after (window_quality mode j flags) streak) 3) None (locate_of mode j flags s) })
+        (record { quality = window_quality mode j flags; streak = streak_after (window_quality mode j flags) streak; start = cond (ltb (streak_after (window_quality mode j flags) streak) 3) None (locate_of mode j flags t) })
     at true e = rw e
     at false e = rw (e, h e)
 
@@ -85,12 +83,12 @@ by_reads_known : (mode j : ℕ) (flags : List ℕ) (streak n : ℕ) → Memᴰ n
 unfolding reads_of reads_in
 by_reads_known mode j flags streak n m = by (robot mode) (ltb (streak_after (window_quality mode j flags) streak) 3) (line_in (spec_of mode) (64 * j) (counts_of mode j flags) flags) m
   where
-    by : (r q : Bool) (l : FirstLine)
+    by : (r q : Bool) (l : Option ℕ)
         → Memᴰ n (cond r (cond q [] (reads_by l (spec_of mode) (64 * j) flags (column_of (spec_of mode) (counts_of mode j flags)))) []) → n < 4 * length flags + 4
-    by true false (Line y) k =
+    by true false (Some y) k =
         let l : n < 4 * (length flags + 1) = reads_below (spec_of mode) (4 * (length flags + 1)) (line_start (spec_of mode) (64 * j) (column_of (spec_of mode) (counts_of mode j flags)) y) (window_lines (spec_of mode)) n k in
         omega arith
-    by true false Missing k = absurd (Memᴰ.not-nil k)
+    by true false None k = absurd (Memᴰ.not-nil k)
     by true true l k = absurd (Memᴰ.not-nil k)
     by false q l k = absurd (Memᴰ.not-nil k)
 
@@ -108,41 +106,41 @@ column_few mode j flags =
     le_of_lt (rw (fold_long mode j flags) at (best_within (counts_of mode j flags) (pulse_columns (spec_of mode) 700) (fold_some mode j flags)))
 
 -- the line of a start, where it lies, and its count
-abbrev Found : (mode j : ℕ) → List ℕ → List Float → (x w : ℕ) → FirstLine → Type 0
-Found mode j flags samples x w l =
+abbrev Found : (mode j : ℕ) → List ℕ → List Float → Located → Option ℕ → Type 0
+Found mode j flags samples place l =
     let s = spec_of mode in
     let c = column_of s (counts_of mode j flags) in
-    (y : ℕ) × (l ≡ Line y)
-    × (x ≡ position_of s (even_start (odd_line mode s samples (line_start s (64 * j) c y)) s (line_start s (64 * j) c y)))
-    × (w ≡ windows_of s (counts_of mode j flags))
+    (y : ℕ) × (l ≡ Some y)
+    × (place.position ≡ position_of s (even_start (odd_line mode s samples (line_start s (64 * j) c y)) s (line_start s (64 * j) c y)))
+    × (place.windows ≡ windows_of s (counts_of mode j flags))
 
-by_line : (mode j : ℕ) (flags : List ℕ) (samples : List Float) (streak x w : ℕ) → (evaluation_by mode j flags samples streak).start ≡ At x w
-    → Found mode j flags samples x w (line_in (spec_of mode) (64 * j) (counts_of mode j flags) flags)
+by_line : (mode j : ℕ) (flags : List ℕ) (samples : List Float) (streak : ℕ) (place : Located) → (evaluation_by mode j flags samples streak).start ≡ Some place
+    → Found mode j flags samples place (line_in (spec_of mode) (64 * j) (counts_of mode j flags) flags)
 unfolding evaluation_by locate_of locate_in
-by_line mode j flags samples streak x w e =
+by_line mode j flags samples streak place e =
     by (ltb (streak_after (window_quality mode j flags) streak) 3) (line_in (spec_of mode) (64 * j) (counts_of mode j flags) flags) e
   where
-    by : (q : Bool) (l : FirstLine)
-        → cond q Nowhere (located_by l mode (spec_of mode) (64 * j) (column_of (spec_of mode) (counts_of mode j flags)) (windows_of (spec_of mode) (counts_of mode j flags)) samples) ≡ At x w
-        → Found mode j flags samples x w l
-    by true l p = let z : ◌≡◌ {A = ℕ} 0 1 = cc in absurd (omega arith)
-    by false Missing p = let z : ◌≡◌ {A = ℕ} 0 1 = cc in absurd (omega arith)
-    by false (Line y) p = (y, refl, cc, cc)
+    by : (q : Bool) (l : Option ℕ)
+        → cond q None (located_by l mode (spec_of mode) (64 * j) (column_of (spec_of mode) (counts_of mode j flags)) (windows_of (spec_of mode) (counts_of mode j flags)) samples) ≡ Some place
+        → Found mode j flags samples place l
+    by true l p = cc
+    by false None p = cc
+    by false (Some y) p = (y, refl, cc, cc)
 
 -- a start lies below 2 ^ 31, and so it fits with every anchor and every size
-by_position_below : (mode j : ℕ) (flags : List ℕ) (samples : List Float) (streak x w : ℕ) → 64 * j ≤ 16777216
-    → (evaluation_by mode j flags samples streak).start ≡ At x w → x ≤ 2 ^ 31
-by_position_below mode j flags samples streak x w h e =
-    let k = by_line mode j flags samples streak x w e in
+by_position_below : (mode j : ℕ) (flags : List ℕ) (samples : List Float) (streak : ℕ) (place : Located) → 64 * j ≤ 16777216
+    → (evaluation_by mode j flags samples streak).start ≡ Some place → place.position ≤ 2 ^ 31
+by_position_below mode j flags samples streak place h e =
+    let k = by_line mode j flags samples streak place e in
     let s = spec_of mode in
     let c = column_of s (counts_of mode j flags) in
     let few : k.0 ≤ 64 = le_trans (line_within s (64 * j) flags c (pulse_columns s 700) k.0 k.1) (sized mode).lines in
     rw k.2 (position_most s (timed mode) (odd_line mode s samples (line_start s (64 * j) c k.0)) (64 * j) c k.0 h (column_few mode j flags) few)
 
 -- the count beside a start is that of its own evaluation's windows, from 1 to 700
-by_windows : (mode j : ℕ) (flags : List ℕ) (samples : List Float) (streak x w : ℕ) → (evaluation_by mode j flags samples streak).start ≡ At x w → (1 ≤ w) × (w ≤ 700)
-by_windows mode j flags samples streak x w e =
-    let k = by_line mode j flags samples streak x w e in
+by_windows : (mode j : ℕ) (flags : List ℕ) (samples : List Float) (streak : ℕ) (place : Located) → (evaluation_by mode j flags samples streak).start ≡ Some place → (1 ≤ place.windows) × (place.windows ≤ 700)
+by_windows mode j flags samples streak place e =
+    let k = by_line mode j flags samples streak place e in
     let n = pulse_columns (spec_of mode) 700 in
     rw k.3
     (windows_some (counts_of mode j flags) n (fold_some mode j flags), rw (fold_long mode j flags) at (windows_most (counts_of mode j flags) n))
@@ -214,13 +212,13 @@ reads_known mode j flags streak n m =
     let f : length (take w flags) ≤ min w (length flags) = seen_few w flags in
     omega arith
 
-pub position_small : (mode j : ℕ) (flags : List ℕ) (samples : List Float) (streak x w : ℕ) → mode ≤ 15 → 64 * j ≤ 16777216
-    → (evaluation_of mode j flags samples streak).start ≡ At x w → x ≤ 2 ^ 62
+pub position_small : (mode j : ℕ) (flags : List ℕ) (samples : List Float) (streak : ℕ) (place : Located) → mode ≤ 15 → 64 * j ≤ 16777216
+    → (evaluation_of mode j flags samples streak).start ≡ Some place → place.position ≤ 2 ^ 62
 unfolding evaluation_of
-position_small mode j flags samples streak x w m h e =
-    le_trans (by_position_below mode j (take (taken_at mode j) flags) (take (known_at mode j) samples) streak x w h e) (lit≤ tt)
+position_small mode j flags samples streak place m h e =
+    le_trans (by_position_below mode j (take (taken_at mode j) flags) (take (known_at mode j) samples) streak place h e) (lit≤ tt)
 
-pub start_windows : (mode j : ℕ) (flags : List ℕ) (samples : List Float) (streak x w : ℕ)
-    → (evaluation_of mode j flags samples streak).start ≡ At x w → (1 ≤ w) × (w ≤ 700)
+pub start_windows : (mode j : ℕ) (flags : List ℕ) (samples : List Float) (streak : ℕ) (place : Located)
+    → (evaluation_of mode j flags samples streak).start ≡ Some place → (1 ≤ place.windows) × (place.windows ≤ 700)
 unfolding evaluation_of
-start_windows mode j flags samples streak x w e = by_windows mode j (take (taken_at mode j) flags) (take (known_at mode j) samples) streak x w e
+start_windows mode j flags samples streak place e = by_windows mode j (take (taken_at mode j) flags) (take (known_at mode j) samples) streak place e

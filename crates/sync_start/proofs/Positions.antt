@@ -1,5 +1,5 @@
 -- An upper bound on the position of a start, in every mode. Assumes nothing.
-use Rattle.std.proofs.Common.{◌≡◌, ℕ, zero, suc, ◌+◌, ◌-◌, ◌*◌, ◌^◌, ◌<◌, ◌≤◌, min, Bool, true, false, cond, ◌&&◌, T, leb, List, drop, refl, le_trans, arith, lit<, lit≤}
+use Rattle.std.proofs.Common.{◌≡◌, ℕ, zero, suc, ◌+◌, ◌-◌, ◌*◌, ◌^◌, ◌<◌, ◌≤◌, min, Bool, true, false, cond, ◌&&◌, T, leb, List, drop, refl, le_trans, arith, lit<, lit≤, Option, Some, None}
 use lib.Ieee.{Float, binary64, sub, mul, of_int}
 use lib.Ieee.Fits.{and_l, and_r}
 use Rattle.ieee.specs.Numbers.{of_nat}
@@ -7,8 +7,6 @@ use Rattle.modespec.specs.declared.ModeSpec.{ModeSpec}
 use Rattle.modespec.specs.ModeSpec.{spec_of, rows}
 use Rattle.modespec.specs.Sizes.{line_samples, pulse_offset, window_lines, working_rate}
 use Rattle.modespec.proofs.Rows as Rows
-use Rattle.first_line.specs.declared.FirstLine.{FirstLine}
-use Rattle.first_line.specs.declared.FirstLine.TheVariants.{Missing, Line}
 use Rattle.columns.specs.Columns.{column_part}
 use Rattle.window_fold.specs.Fold.{lines_at}
 use Rattle.first_line.specs.Pulsed.{first_line, first_pair, half_set, pulsed_line, line_probes, pulse_probes, narrow_line, wide_line, or_zero, first_pulsed_line}
@@ -17,37 +15,37 @@ use Rattle.ieee.proofs.Magnitudes.{Under, is_under, under_tested, weaker, add_un
 
 -- ---- the first line is one of the window
 
-first_within : (test : ℕ → Bool) (y n m : ℕ) → first_line test y n ≡ Line m → m < y + n
+first_within : (test : ℕ → Bool) (y n m : ℕ) → first_line test y n ≡ Some m → m < y + n
 unfolding first_line
 first_within test y zero m e = let z : ◌≡◌ {A = ℕ} 0 1 = cc in omega arith
 first_within test y (suc n) m e = at (test y) refl e (λ h. first_within test (suc y) n m h)
   where
-    at : (b : Bool) → test y ≡ b → cond b (Line y) (first_line test (suc y) n) ≡ Line m → (first_line test (suc y) n ≡ Line m → m < suc y + n) → m < y + suc n
+    at : (b : Bool) → test y ≡ b → cond b (Some y) (first_line test (suc y) n) ≡ Some m → (first_line test (suc y) n ≡ Some m → m < suc y + n) → m < y + suc n
     at true p q r = let z : y ≡ m = cc in omega arith
     at false p q r = let z : m < suc y + n = r q in omega arith
 
-or_zero_within : (l : FirstLine) (n m : ℕ) → ((k : ℕ) → l ≡ Line k → k < n) → or_zero l ≡ Line m → m ≤ n
-or_zero_within Missing n m h e = let z : 0 ≡ m = cc in omega arith
-or_zero_within (Line y) n m h e = let z : y ≡ m = cc in let l : y < n = h y refl in omega arith
+or_zero_within : (l : Option ℕ) (n m : ℕ) → ((k : ℕ) → l ≡ Some k → k < n) → or_zero l ≡ Some m → m ≤ n
+or_zero_within None n m h e = let z : 0 ≡ m = cc in omega arith
+or_zero_within (Some y) n m h e = let z : y ≡ m = cc in let l : y < n = h y refl in omega arith
 
-pair_within : (pulsed : ℕ → Bool) (lines y : ℕ) → first_pair pulsed lines ≡ Line y → y ≤ lines
+pair_within : (pulsed : ℕ → Bool) (lines y : ℕ) → first_pair pulsed lines ≡ Some y → y ≤ lines
 unfolding first_pair
 pair_within pulsed lines y e = less y lines (first_within (λ k. pulsed k && pulsed (k + 1)) 0 (lines - 1) y e)
   where
     less : (m n : ℕ) → m < 0 + (n - 1) → m ≤ n
     less m n h = omega arith
 
-wide_within : (test : ℕ → Bool) (lines y : ℕ) → or_zero (first_line test 0 lines) ≡ Line y → y ≤ lines
+wide_within : (test : ℕ → Bool) (lines y : ℕ) → or_zero (first_line test 0 lines) ≡ Some y → y ≤ lines
 wide_within test lines y e = or_zero_within (first_line test 0 lines) lines y (λ k q. same k lines (first_within test 0 lines k q)) e
   where
     same : (m n : ℕ) → m < 0 + n → m < n
     same m n h = omega arith
 
-pub line_within : (spec : ModeSpec) (first : ℕ) (flags : List ℕ) (column width y : ℕ) → first_pulsed_line spec first flags column width ≡ Line y → y ≤ window_lines spec
+pub line_within : (spec : ModeSpec) (first : ℕ) (flags : List ℕ) (column width y : ℕ) → first_pulsed_line spec first flags column width ≡ Some y → y ≤ window_lines spec
 unfolding first_pulsed_line wide_line narrow_line
 line_within spec first flags column width y e = at (leb 20 width) e
   where
-    at : (b : Bool) → cond b (wide_line spec (drop first flags) column width) (narrow_line spec first flags column) ≡ Line y → y ≤ window_lines spec
+    at : (b : Bool) → cond b (wide_line spec (drop first flags) column width) (narrow_line spec first flags column) ≡ Some y → y ≤ window_lines spec
     at true p = wide_within (half_set (line_samples spec) (drop first flags) column width) (window_lines spec) y p
     at false p = pair_within (pulsed_line (line_probes spec) (pulse_probes spec) (drop (first - min first 65) flags) (min first 65) column) (window_lines spec) y p
 

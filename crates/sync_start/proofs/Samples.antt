@@ -1,12 +1,10 @@
 -- Which samples an evaluation reads. Assumes nothing.
-use Rattle.std.proofs.Common.{◌≡◌, ℕ, zero, suc, ◌+◌, ◌*◌, ◌<◌, ◌≤◌, Bool, true, false, cond, ◌⊎◌, List, [], ◌∷◌, ◌++◌, length, get_or, take, drop, pos, sym, refl, ◌∙◌, inl, inr, not-suc-le-zero, eq-or-lt_of_le, arith, length-drop, length-take-le, get_or-drop, get_or-take, ext_get_or}
+use Rattle.std.proofs.Common.{◌≡◌, ℕ, zero, suc, ◌+◌, ◌*◌, ◌<◌, ◌≤◌, Bool, true, false, cond, ◌⊎◌, List, [], ◌∷◌, ◌++◌, length, get_or, take, drop, pos, sym, refl, ◌∙◌, inl, inr, not-suc-le-zero, eq-or-lt_of_le, arith, length-drop, length-take-le, get_or-drop, get_or-take, ext_get_or, Option, Some, None}
 use mathlib.Core.List.Memᴰ
 use mathlib.Core.List.{Memᴰ}
 use lib.Ieee.{Float, fin, to_unsigned}
 use Rattle.modespec.specs.declared.ModeSpec.{ModeSpec}
 use Rattle.modespec.specs.Sizes.{robot, window_lines}
-use Rattle.first_line.specs.declared.FirstLine.{FirstLine}
-use Rattle.first_line.specs.declared.FirstLine.TheVariants.{Missing, Line}
 use Rattle.columns.specs.Columns.{list_to}
 use Rattle.line_parity.specs.Parity.{tone_at, tone_known, tone_of, vote_on, vote_to, odd_line, reads_to}
 use Rattle.sync_start.specs.Evaluate.{line_start, located_by, reads_by}
@@ -101,13 +99,13 @@ reads_below spec known start (suc k) m h = at (Memᴰ.append_cases (reads_to spe
 -- ---- the start
 
 module _ (mode : ℕ) (spec : ModeSpec) (first column windows : ℕ) where
-  pub start_others : (l : FirstLine) (s t : List Float) → robot mode ≡ false → located_by l mode spec first column windows s ≡ located_by l mode spec first column windows t
+  pub start_others : (l : Option ℕ) (s t : List Float) → robot mode ≡ false → located_by l mode spec first column windows s ≡ located_by l mode spec first column windows t
   unfolding odd_line
-  start_others Missing s t e = refl
-  start_others (Line y) s t e = rw e
+  start_others None s t e = refl
+  start_others (Some y) s t e = rw e
 
-  pub start_same : (l : FirstLine) (flags : List ℕ) (s t : List Float) → length s ≡ 4 * (length flags + 1) → length t ≡ 4 * (length flags + 1)
+  pub start_same : (l : Option ℕ) (flags : List ℕ) (s t : List Float) → length s ≡ 4 * (length flags + 1) → length t ≡ 4 * (length flags + 1)
       → ((m : ℕ) → Memᴰ m (reads_by l spec first flags column) → sample_of s m ≡ sample_of t m) → located_by l mode spec first column windows s ≡ located_by l mode spec first column windows t
   unfolding odd_line
-  start_same Missing flags s t a b h = refl
-  start_same (Line y) flags s t a b h = rw (vote_same (4 * (length flags + 1)) s t a b spec (line_start spec first column y) (window_lines spec) h)
+  start_same None flags s t a b h = refl
+  start_same (Some y) flags s t a b h = rw (vote_same (4 * (length flags + 1)) s t a b spec (line_start spec first column y) (window_lines spec) h)

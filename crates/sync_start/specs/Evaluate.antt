@@ -1,7 +1,7 @@
 -- One evaluation (01-scope.md, "Start search"): `evaluate` and `locate_start` of sync_start.rs, and the samples that it reads; with the start
 -- how many pulse windows have the largest sum (02-change-requests.md, A.3). Definitions only.
 -- j is the evaluation's number. Flag and sample n stand at place n of their lists.
-use Rattle.std.specs.Prelude.{ℕ, ◌+◌, ◌*◌, Bool, false, cond, List, [], length, take, drop, pos, nat_lt, Float}
+use Rattle.std.specs.Prelude.{ℕ, ◌+◌, ◌*◌, Bool, false, cond, List, [], length, take, drop, pos, nat_lt, Option, Some, None, Float}
 use Rattle.std.specs.Float.{fin, binary32, binary64}
 use Rattle.std.specs.Float.Ieee.{round, add, sub, mul, lt, to_unsigned}
 use Rattle.ieee.specs.Numbers.{of_nat}
@@ -14,10 +14,7 @@ use Rattle.pulse.specs.Quality.{quality_of}
 use Rattle.window_fold.specs.Fold.{lines_at, fold_of}
 use Rattle.first_line.specs.Pulsed.{first_pulsed_line}
 use Rattle.line_parity.specs.Parity.{odd_line, reads_to}
-use Rattle.first_line.specs.declared.FirstLine.{FirstLine}
-use Rattle.first_line.specs.declared.FirstLine.TheVariants.{Missing, Line}
 use Rattle.sync_start.specs.declared.Located.{Located}
-use Rattle.sync_start.specs.declared.Located.TheVariants.{Nowhere, At}
 use Rattle.sync_start.specs.declared.Evaluation.{Evaluation}
 
 -- ---- the start
@@ -40,11 +37,11 @@ position_of spec start =
     (maximum (sub binary64 start (mul binary64 (mul binary64 (of_nat 2) spec.sync_seconds) working_rate)) (fin false 0 (pos 0))))
 
 -- `locate_start`, for the first pulsed line; the count stands beside the start
-abbrev pub located_by : FirstLine → ℕ → ModeSpec → ℕ → ℕ → ℕ → List Float → Located
-located_by Missing mode spec first column windows samples = Nowhere
-located_by (Line y) mode spec first column windows samples =
+abbrev pub located_by : Option ℕ → ℕ → ModeSpec → ℕ → ℕ → ℕ → List Float → Option Located
+located_by None mode spec first column windows samples = None
+located_by (Some y) mode spec first column windows samples =
     let start = line_start spec first column y in
-    At (position_of spec (even_start (odd_line mode spec samples start) spec start)) windows
+    Some (record { position = position_of spec (even_start (odd_line mode spec samples start) spec start); windows = windows })
 
 -- the start of the picture of these counts: `first_pulsed_line` at the best window, then `locate_start`
 abbrev pub column_of : ModeSpec → List ℕ → ℕ
@@ -54,10 +51,10 @@ column_of spec counts = (best_window counts (pulse_columns spec 700)).start
 abbrev pub windows_of : ModeSpec → List ℕ → ℕ
 windows_of spec counts = (best_window counts (pulse_columns spec 700)).windows
 
-abbrev pub line_in : ModeSpec → ℕ → List ℕ → List ℕ → FirstLine
+abbrev pub line_in : ModeSpec → ℕ → List ℕ → List ℕ → Option ℕ
 line_in spec first counts flags = first_pulsed_line spec first flags (column_of spec counts) (pulse_columns spec 700)
 
-unfoldable pub locate_in : ℕ → ModeSpec → ℕ → List ℕ → List ℕ → List Float → Located
+unfoldable pub locate_in : ℕ → ModeSpec → ℕ → List ℕ → List ℕ → List Float → Option Located
 locate_in mode spec first counts flags samples =
     located_by (line_in spec first counts flags) mode spec first (column_of spec counts) (windows_of spec counts) samples
 
@@ -67,7 +64,7 @@ locate_in mode spec first counts flags samples =
 abbrev pub counts_of : ℕ → ℕ → List ℕ → List ℕ
 counts_of mode j flags = fold_of (spec_of mode) (drop (64 * j) flags)
 
-unfoldable pub locate_of : ℕ → ℕ → List ℕ → List Float → Located
+unfoldable pub locate_of : ℕ → ℕ → List ℕ → List Float → Option Located
 locate_of mode j flags samples = locate_in mode (spec_of mode) (64 * j) (counts_of mode j flags) flags samples
 
 -- 0.6 as an `f32`
@@ -87,7 +84,7 @@ unfoldable pub evaluation_by : ℕ → ℕ → List ℕ → List Float → ℕ �
 evaluation_by mode j flags samples streak =
     let quality = window_quality mode j flags in
     let next = streak_after quality streak in
-    record { quality = quality; streak = next; start = cond (nat_lt next 3) Nowhere (locate_of mode j flags samples) }
+    record { quality = quality; streak = next; start = cond (nat_lt next 3) None (locate_of mode j flags samples) }
 
 -- ---- the flags and samples that it is made from
 
@@ -105,9 +102,9 @@ evaluation_of mode j flags samples streak = evaluation_by mode j (take (taken_at
 
 -- ---- the samples that an evaluation reads
 
-abbrev pub reads_by : FirstLine → ModeSpec → ℕ → List ℕ → ℕ → List ℕ
-reads_by Missing spec first flags column = []
-reads_by (Line y) spec first flags column = reads_to spec (4 * (length flags + 1)) (line_start spec first column y) (window_lines spec)
+abbrev pub reads_by : Option ℕ → ModeSpec → ℕ → List ℕ → ℕ → List ℕ
+reads_by None spec first flags column = []
+reads_by (Some y) spec first flags column = reads_to spec (4 * (length flags + 1)) (line_start spec first column y) (window_lines spec)
 
 unfoldable pub reads_in : ModeSpec → ℕ → List ℕ → List ℕ → List ℕ
 reads_in spec first counts flags = reads_by (line_in spec first counts flags) spec first flags (column_of spec counts)

@@ -6,17 +6,15 @@ ghost use Rattle.std.specs.Prelude.{◌≡◌, ◌+◌, ◌*◌, ◌≤◌, leng
 ghost use Rattle.modespec.specs.ModeSpec.{spec_of};
 ghost use Rattle.modespec.specs.Sizes as Sizes;
 ghost use Rattle.sync_start.specs.Evaluate as Evaluate;
-ghost use Rattle.sync_start.specs.Steps as Steps;
 ghost use Rattle.sync_start.specs.Steps.{Sized};
 
-use first_line::FirstLine;
 use modespec::ModeSpec;
 
 // Where a picture starts, as a sample counted from the anchor, and how many pulse windows have the largest sum there.
 #[derive(Clone, Copy)]
-pub enum Located {
-    Nowhere,
-    At(u64, u16),
+pub struct Located {
+    pub position: u64,
+    pub windows: u16,
 }
 
 // What an evaluation gives: its quality, the streak behind it, and the start.
@@ -24,7 +22,7 @@ pub enum Located {
 pub struct Evaluation {
     pub quality: f32,
     pub streak: u64,
-    pub start: Located,
+    pub start: Option<Located>,
 }
 
 // A window must score at least this ..
@@ -76,19 +74,15 @@ fn locate_start(
     column: usize,
     windows: u16,
     samples: &[f32],
-    line: FirstLine,
-) -> Located
+    line: Option<usize>,
+) -> Option<Located>
     requires { (first ≤ 16777216) × (column ≤ 700) × (Sizes.window_lines spec ≤ 65536) }
     ensures { result ≡ Evaluate.located_by line mode spec first column windows samples.now }
 {
-    match line {
-        FirstLine::Missing => Located::Nowhere,
-        FirstLine::Line(y) => {
-            let start = line_start(spec, first, column, y);
-            let odd = line_parity::first_line_is_odd(mode, spec, samples, start);
-            Located::At(position(spec, even_start(odd, spec, start)), windows)
-        }
-    }
+    let start = line_start(spec, first, column, line?);
+    let odd = line_parity::first_line_is_odd(mode, spec, samples, start);
+    let position = position(spec, even_start(odd, spec, start));
+    Some(Located { position, windows })
 }
 
 // Where the picture of these counts starts, if its first line is found.
@@ -99,7 +93,7 @@ fn locate(
     counts: &[u32; 700],
     flags: &[u8],
     samples: &[f32],
-) -> Located
+) -> Option<Located>
     requires { (first ≤ length flags.now) × (length flags.now ≤ 16777216) × Sized spec }
     ensures { result ≡ Evaluate.locate_in mode spec first counts.now flags.now samples.now }
 {
@@ -111,24 +105,15 @@ fn locate(
     locate_start(mode, spec, first, column, windows, samples, line)
 }
 
-// An evaluation without a start, and one with it.
-fn nowhere(quality: f32, streak: u64) -> Evaluation
-    ensures { result ≡ Steps.without_start quality streak }
+// A quality below 0.6 ends the streak.
+fn streak_after(quality: f32, streak: u64) -> u64
+    requires { streak ≤ 16777216 }
+    ensures { result ≡ Evaluate.streak_after quality streak }
 {
-    Evaluation {
-        quality,
-        streak,
-        start: Located::Nowhere,
-    }
-}
-
-fn found(quality: f32, streak: u64, position: u64, windows: u16) -> Evaluation
-    ensures { result ≡ Steps.with_start quality streak position windows }
-{
-    Evaluation {
-        quality,
-        streak,
-        start: Located::At(position, windows),
+    if quality < START_QUALITY {
+        0
+    } else {
+        streak + 1
     }
 }
 
@@ -142,19 +127,18 @@ fn evaluate_by(mode: u8, j: usize, flags: &[u8], samples: &[f32], streak: u64) -
     let first = EVAL_EVERY_PROBES * j;
     let counts = window_fold::fold(&flags[first..], modespec::line_samples(spec), lines);
     let quality = pulse::quality(&counts, spec, lines);
-    if quality < START_QUALITY {
-        return nowhere(quality, 0);
+    let streak = streak_after(quality, streak);
+    let waiting = Evaluation {
+        quality,
+        streak,
+        start: None,
+    };
+    if streak < START_CONSECUTIVE {
+        return waiting;
     }
-    let next = streak + 1;
-    if next < START_CONSECUTIVE {
-        return nowhere(quality, next);
-    }
+    // Where no clean first line is found the streak stays, so the next evaluation tries again.
     let start = locate(mode, spec, first, &counts, flags, samples);
-    match start {
-        // No clean first line yet. The streak stays, so the next evaluation tries again.
-        Located::Nowhere => nowhere(quality, next),
-        Located::At(position, windows) => found(quality, next, position, windows),
-    }
+    Evaluation { start, ..waiting }
 }
 
 // Evaluation j. The flags and samples behind those taken when it happens change nothing.
@@ -166,6 +150,6 @@ pub fn evaluate(mode: u8, j: usize, flags: &[u8], samples: &[f32], streak: u64) 
 {
     let w = modespec::mode_window_probes(mode);
     let taken = EVAL_EVERY_PROBES * j + w;
-    let known = limits::min(4 * (taken + 1), samples.len());
+    let known = (4 * (taken + 1)).min(samples.len());
     evaluate_by(mode, j, &flags[..taken], &samples[..known], streak)
 }

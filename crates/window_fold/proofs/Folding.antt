@@ -86,10 +86,6 @@ module _ (window places counts : List ℕ) where
   added_at x h = get_d_list (λ k. get_or counts k 0 + bit_at window (get_or places k 0)) 700 x 0 h
 
 module _ (samples : Float) (window : List ℕ) (y : ℕ) where
-  pub places_length : length (places_of samples y) ≡ 700
-  unfolding places_of
-  places_length = length_list (λ x. probe_of (lines_at y x) samples) 700
-
   place_at : (x : ℕ) → x < 700 → get_or (places_of samples y) x 0 ≡ probe_of (lines_at y x) samples
   unfolding places_of
   place_at x h = get_d_list (λ k. probe_of (lines_at y k) samples) 700 x 0 h

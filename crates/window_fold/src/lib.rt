@@ -31,27 +31,22 @@ pub fn hit(window: &[u8], samples: f64, lines: f64) -> u32
 
 // The numbers of the flags that the columns of line y read.
 fn line_places(parts: &[f64; 700], samples: f64, y: usize, places: &mut [usize; 700])
-    requires { (y ≤ 65536) × (parts.now ≡ list_to (column_part 700) 700) × (length places.old ≡ 700) }
+    requires { (y ≤ 65536) × (parts.now ≡ list_to (column_part 700) 700) }
     ensures { places.new ≡ places_of samples y }
 {
     let line = y as f64;
-    let mut x: usize = 0;
-    while x < 700 {
+    for x in 0..700 {
         places[x] = columns::probe_at(line + parts[x], samples);
-        x += 1;
     }
 }
 
 // Adds the flag at each column's place to the column's count.
 fn add_bits(window: &[u8], places: &[usize; 700], counts: &mut [u32; 700])
-    requires { (length counts.old ≡ 700) × ((x : ℕ) → x < 700 → get_or counts.old x 0 ≤ 65536) }
+    requires { (x : ℕ) → x < 700 → get_or counts.old x 0 ≤ 65536 }
     ensures { counts.new ≡ added_to window.now places.now counts.old }
 {
-    let mut x: usize = 0;
-    while x < 700 {
-        let more = bit_at(window, places[x]);
-        counts[x] += more;
-        x += 1;
+    for x in 0..700 {
+        counts[x] += bit_at(window, places[x]);
     }
 }
 
@@ -64,8 +59,8 @@ fn fold_line(
     places: &mut [usize; 700],
     counts: &mut [u32; 700],
 )
-    requires { (y ≤ 65536) × (parts.now ≡ list_to (column_part 700) 700) × (length places.old ≡ 700) × (counts.old ≡ fold_to samples window.now y) }
-    ensures { (length places.new ≡ 700) × (counts.new ≡ fold_to samples window.now (y + 1)) }
+    requires { (y ≤ 65536) × (parts.now ≡ list_to (column_part 700) 700) × (counts.old ≡ fold_to samples window.now y) }
+    ensures { counts.new ≡ fold_to samples window.now (y + 1) }
 {
     line_places(parts, samples, y, places);
     add_bits(window, places, counts);
@@ -79,10 +74,8 @@ fn fold_lines(window: &[u8], samples: f64, lines: usize) -> [u32; 700]
     let parts = columns::column_parts_700();
     let mut places = [0usize; 700];
     let mut counts = [0u32; 700];
-    let mut y: usize = 0;
-    while y < lines {
+    for y in 0..lines {
         fold_line(window, &parts, samples, y, &mut places, &mut counts);
-        y += 1;
     }
     counts
 }
@@ -91,15 +84,9 @@ fn fold_lines(window: &[u8], samples: f64, lines: usize) -> [u32; 700]
 fn is_silent(window: &[u8]) -> bool
     ensures { result ≡ all_at_most 0 window.now }
 {
-    let mut i: usize = 0;
-    while i < window.len() {
-        let end = i + limits::min(SCAN_FLAGS, window.len() - i);
-        if !limits::all_at_most(0, &window[i..end]) {
-            return false;
-        }
-        i = end;
-    }
-    true
+    window
+        .chunks(SCAN_FLAGS)
+        .all(|block| limits::all_at_most(0, block))
 }
 
 // The counts of so many lines. A window without a set flag has none to count.

@@ -1,13 +1,12 @@
--- One byte more of a number, the least first. Assumes nothing.
-use mathlib.Core.Path.{◌≡◌, sym, ap, ◌∙◌, subst}
-use mathlib.Core.List.{List}
-use Prim.Native.Nat.{ℕ, suc, ◌+◌, ◌-◌, ◌*◌, ◌^◌, ◌≤◌, ◌<◌}
-use native.Mathlib.Nat.{lt_of_lt_of_le}
-use native.Mathlib.Omega.{arith}
-use lib.ListN.{length, take, drop, get_or}
-use lib.Seq.{drop-cons}
-use lib.Pow.{pow-add, pow_mono}
+-- One byte of a list as a number, and up to eight of them, with zeros behind. Assumes nothing.
+use Rattle.std.proofs.Common.{◌≡◌, ℕ, zero, suc, ◌+◌, ◌*◌, ◌^◌, ◌≤◌, ◌<◌, List, [], ◌∷◌, ◌++◌, length, take, drop, length-drop, drop-cons, ◌-◌, subst, get_or, w64, refl, sym, ap, ◌∙◌, arith}
+use Rattle.std.specs.Int.{from_le_bytes}
+use native.Mathlib.Nat.{pow-succ'}
+use lib.Pow.{pow-add}
+use lib.Seq.{length-take-le}
 use Rattle.words.specs.Words.{little_endian, number_at}
+use Rattle.words.proofs.RoundTrip.{Bytes}
+use Rattle.words.proofs.Packing.{number_at_lt}
 
 -- a single byte
 pub single : (b : List ℕ) (at : ℕ) → at < length b → get_or b at 0 ≡ number_at b at 1
@@ -17,77 +16,46 @@ single b at h = sym (ap (λ (l : List ℕ). little_endian (take 1 l)) (drop-cons
     plus : (n : ℕ) → n + 256 * 0 ≡ n
     plus n = omega arith
 
--- v is the number of the n - i bytes from at + i on, and below 2 ^ (8 * (n - i))
-pub record Read (b : List ℕ) (at n i v : ℕ) : Type 0 where
-  pub is : v ≡ number_at b (at + i) (n - i)
-  pub small : v < 2 ^ (8 * (n - i))
+abbrev pub zeros : List ℕ
+zeros = 0 ∷ 0 ∷ 0 ∷ 0 ∷ 0 ∷ 0 ∷ 0 ∷ 0 ∷ []
 
-pub none : (b : List ℕ) (at n : ℕ) → Read b at n n 0
+pub padded : (xs : List ℕ) → length xs ≤ 8 → from_le_bytes w64 (xs ++ drop (length xs) zeros) ≡ little_endian xs
 unfolding little_endian
-none b at n = record { is = ap (λ (k : ℕ). number_at b (at + n) k) (zero_of n); small = subst (λ (k : ℕ). 0 < 2 ^ (8 * k)) (zero_of n) (lib.Pow.pow_pos 0) }
+padded [] h = omega arith
+padded (a ∷ []) h = omega arith
+padded (a ∷ b ∷ []) h = omega arith
+padded (a ∷ b ∷ c ∷ []) h = omega arith
+padded (a ∷ b ∷ c ∷ d ∷ []) h = omega arith
+padded (a ∷ b ∷ c ∷ d ∷ e ∷ []) h = omega arith
+padded (a ∷ b ∷ c ∷ d ∷ e ∷ f ∷ []) h = omega arith
+padded (a ∷ b ∷ c ∷ d ∷ e ∷ f ∷ g ∷ []) h = omega arith
+padded (a ∷ b ∷ c ∷ d ∷ e ∷ f ∷ g ∷ i ∷ []) h = omega arith
+padded (a ∷ b ∷ c ∷ d ∷ e ∷ f ∷ g ∷ i ∷ j ∷ xs) h = absurd (omega arith)
+
+-- n bytes are 8 n bits
+pub bits_of_bytes : (n : ℕ) → 256 ^ n ≡ 2 ^ (8 * n)
+bits_of_bytes zero = refl
+bits_of_bytes (suc n) = rw (pow-succ' 256 n, bits_of_bytes n, more) (rw (pow-add 2 (8 * n) 8) (turn (2 ^ (8 * n))))
   where
-    zero_of : (a : ℕ) → 0 ≡ a - a
-    zero_of a = omega arith
+    more : 8 * suc n ≡ 8 * n + 8
+    more = omega arith
 
-module _ (b : List ℕ) (at n i v : ℕ) (pos : 0 < i) (le : i ≤ n) (within : at + n ≤ length b) (r : Read b at n i v) where
-  abbrev x : ℕ
-  x = get_or b (at + (i - 1)) 0
+    turn : (p : ℕ) → 256 * p ≡ p * 256
+    turn p = omega arith
 
-  one_more : 8 * (n - (i - 1)) ≡ 8 * (n - i) + 8
-  one_more = omega arith
-
-  next_small : x < 256 → v * 256 + x < 2 ^ (8 * (n - (i - 1)))
-  next_small h =
-      subst (λ (k : ℕ). v * 256 + x < 2 ^ k) (sym one_more)
-      (subst (λ (k : ℕ). v * 256 + x < k) (sym (pow-add 2 (8 * (n - i)) 8)) (go v x (2 ^ (8 * (n - i))) r.small h))
-    where
-      go : (a c p : ℕ) → a < p → c < 256 → a * 256 + c < p * 256
-      go a c p k l = omega arith
-
-  pub next : x < 256 → Read b at n (i - 1) (v * 256 + x)
-  unfolding little_endian
-  next h = record { is = is; small = next_small h }
-    where
-      turn : (a c : ℕ) → a * 256 + c ≡ c + 256 * a
-      turn a c = omega arith
-
-      steps : suc (n - i) ≡ n - (i - 1)
-      steps = omega arith
-
-      inside : at + (i - 1) < length b
-      inside = omega arith
-
-      after : suc (at + (i - 1)) ≡ at + i
-      after = omega arith
-
-      is : v * 256 + x ≡ number_at b (at + (i - 1)) (n - (i - 1))
-      is =
-          turn v x
-          ∙ ap (λ (k : ℕ). x + 256 * k) r.is
-          ∙ ap (λ (k : ℕ). x + 256 * little_endian (take (n - i) (drop k b))) (sym after)
-          ∙ sym (ap (λ (l : List ℕ). little_endian (take (suc (n - i)) l)) (drop-cons b (at + (i - 1)) 0 inside))
-          ∙ ap (λ (k : ℕ). number_at b (at + (i - 1)) k) steps
-
-  pub next_fits : n ≤ 8 → x < 256 → v * 256 + x < 2 ^ 64
-  next_fits m h = lt_of_lt_of_le (next_small h) (pow_mono (go n i m))
-    where
-      go : (a c : ℕ) → a ≤ 8 → 8 * (a - (c - 1)) ≤ 64
-      go a c k = omega arith
-
-  pub shifted_fits : n ≤ 8 → x < 256 → v * 256 < 2 ^ 64
-  shifted_fits m h = go (v * 256) x (next_fits m h)
-    where
-      go : (a c : ℕ) → a + c < 2 ^ 64 → a < 2 ^ 64
-      go a c k = omega arith
-
-pub all : (b : List ℕ) (at n i v : ℕ) → i ≤ 0 → Read b at n i v → (v ≡ number_at b at n) × (v < 2 ^ (8 * n))
-all b at n i v h r = (
-  r.is ∙ ap (λ (k : ℕ). number_at b k (n - i)) (start at i h) ∙ ap (number_at b at) (whole n i h),
-  subst (λ (k : ℕ). v < 2 ^ (8 * k)) (whole n i h) r.small,
-)
+-- a run of n bytes, copied before zeros and read
+pub run_read : (b : List ℕ) (at n r : ℕ) (run : List ℕ) → Bytes b → n ≤ 8 → at + n ≤ length b → run ≡ take (at + n - at) (drop at b)
+    → r ≡ from_le_bytes w64 (run ++ drop n zeros) → (r ≡ number_at b at n) × (r < 2 ^ (8 * n))
+run_read b at n r run bytes few within e h = (is, subst (λ (k : ℕ). r < k) (bits_of_bytes n) (rw is (number_at_lt n at b bytes)))
   where
-    start : (a j : ℕ) → j ≤ 0 → a + j ≡ a
-    start a j k = omega arith
+    here : at + n - at ≡ n
+    here = omega arith
 
-    whole : (a j : ℕ) → j ≤ 0 → a - j ≡ a
-    whole a j k = omega arith
+    size : length (take n (drop at b)) ≡ n
+    size = length-take-le n (drop at b) (rw length-drop (omega arith))
+
+    own : from_le_bytes w64 (take n (drop at b) ++ drop (length (take n (drop at b))) zeros) ≡ number_at b at n
+    own = padded (take n (drop at b)) (rw size few)
+
+    is : r ≡ number_at b at n
+    is = h ∙ rw (e, here) (rw size at own)

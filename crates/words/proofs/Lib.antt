@@ -1,8 +1,6 @@
 -- What the proofs of several functions use, and laws of numbers as bytes.
 mod Patterns
 mod Bytes
-mod Complement
-mod Signs
 pub mod Storing
 pub mod RoundTrip
 pub mod Packing

@@ -1,49 +1,55 @@
 -- Bytes stored in a buffer: a number byte by byte, and one run behind another. Assumes nothing.
 use mathlib.Core.Path.{◌≡◌, refl, ◌∙◌}
-use mathlib.Core.List.{List, [], ◌∷◌, ◌++◌, append-nil}
+use mathlib.Core.List.{List, [], ◌∷◌, ◌++◌, append-nil, append_assoc}
 use Prim.Native.Nat.{ℕ, suc, ◌+◌, ◌-◌, ◌/◌, ◌%◌, ◌≤◌, ◌<◌}
 use native.Mathlib.Nat.{le_refl}
 use native.Mathlib.Omega.{arith}
 use lib.ListN.{length, set, length-set, length-append}
-use lib.Seq.{sets, sets-eq, drop-length}
+use lib.Seq.{sets, sets-eq, drop-length, drop-drop}
+use native.Mathlib.Numerals.{add-one}
+use borrow.Rule.Slice.PartMut.{put_mid}
 use Rattle.words.specs.Words.{bytes_of}
 use Rattle.words.proofs.RoundTrip.{length_bytes}
 
 -- ---- a number
 
--- i bytes are stored: with those of `rest` behind them the buffer is the one that is wanted
-pub record Begun (b₀ : List ℕ) (at n v : ℕ) (b : List ℕ) (rest i : ℕ) : Type 0 where
-  pub size : length b ≡ length b₀
+-- i bytes are stored: with those of `rest` behind them they are the n bytes of v
+pub record Begun (n v : ℕ) (bytes : List ℕ) (rest i : ℕ) : Type 0 where
+  pub size : length bytes ≡ n
   pub upto : i ≤ n
-  pub is : sets b (at + i) (bytes_of (n - i) rest) ≡ sets b₀ at (bytes_of n v)
+  pub is : sets bytes i (bytes_of (n - i) rest) ≡ bytes_of n v
 
-module _ (b₀ : List ℕ) (at n v : ℕ) where
-  pub none : Begun b₀ at n v b₀ v 0
-  none = record { size = refl; upto = omega arith; is = rw (here, all) }
+module _ (n v : ℕ) (bytes : List ℕ) where
+  pub none : length bytes ≡ n → Begun n v bytes v 0
+  none e = record { size = e; upto = omega arith; is = rw all (sets-eq (bytes_of n v) bytes 0 (omega (arith, length_bytes n v)) ∙ rw end (rw (drop-length bytes, append-nil (bytes_of n v)))) }
     where
-      here : at + 0 ≡ at
-      here = omega arith
-
       all : n - 0 ≡ n
       all = omega arith
 
-  module _ (b : List ℕ) (rest i : ℕ) (s : Begun b₀ at n v b rest i) where
-    pub next : i < n → Begun b₀ at n v (set b (at + i) (rest % 256)) (rest / 256) (suc i)
-    unfolding bytes_of
-    next h = record { size = length-set b (at + i) (rest % 256) ∙ s.size; upto = h; is = rw after (rw one_more at s.is) }
-      where
-        after : at + suc i ≡ suc (at + i)
-        after = omega arith
+      end : 0 + length (bytes_of n v) ≡ length bytes
+      end = omega (arith, length_bytes n v)
 
+  module _ (rest i : ℕ) (s : Begun n v bytes rest i) where
+    pub next : i < n → Begun n v (set bytes i (rest % 256)) (rest / 256) (i + 1)
+    unfolding bytes_of
+    next h = record { size = length-set bytes i (rest % 256) ∙ s.size; upto = omega arith; is = rw add-one (rw one_more at s.is) }
+      where
         one_more : n - i ≡ suc (n - suc i)
         one_more = omega arith
 
-    pub done : n ≤ i → b ≡ sets b₀ at (bytes_of n v)
+    pub done : n ≤ i → bytes ≡ bytes_of n v
     unfolding bytes_of
     done h = rw nothing at s.is
       where
         nothing : n - i ≡ 0
         nothing = omega arith
+
+-- the bytes put back in their place, k of them from place `at` on
+pub put_back : (b bytes : List ℕ) (at n : ℕ) → at + n ≤ length b → length bytes ≡ n → put_mid at (at + n - at) b bytes ≡ sets b at bytes
+put_back b bytes at n h e = rw (here, sets-eq bytes b at (rw e h), e, drop-drop n at b, append_assoc)
+  where
+    here : at + n - at ≡ n
+    here = omega arith
 
 -- ---- fields
 

@@ -1,30 +1,20 @@
 // Numbers as bytes, the least first, and back: whole numbers, signed ones in two's complement, and the bit patterns of floats. A word has eight bytes, a half word four.
 #![tactic(auto)]
 
-ghost use Rattle.std.specs.Prelude.{◌≡◌, ◌+◌, ◌*◌, ◌%◌, ◌^◌, ◌≤◌, ◌<◌, length};
+ghost use Rattle.std.specs.Prelude.{◌≡◌, ◌+◌, ◌*◌, ◌%◌, ◌^◌, ◌≤◌, ◌<◌, ℕ, length, Float};
 ghost use Rattle.std.proofs.lemmas.List.Edits.{sets};
 ghost use Rattle.std.specs.Float.Ieee as Ieee;
-ghost use Rattle.std.specs.Float.{binary32, binary64};
+ghost use Rattle.std.specs.Float.{Format, binary32, binary64};
 ghost use Rattle.words.specs.Words.{number_at, bytes_of, has_bits, bits_of, signed_of};
-
-fn wide(x: u8) -> u64
-    ensures { result ≡ x }
-{
-    x as u64
-}
 
 // The n bytes from place `at` on as a number, the least first.
 pub fn number(b: &[u8], at: usize, n: usize) -> u64
     requires { (n ≤ 8) × (at + n ≤ length b.now) }
     ensures { (result ≡ number_at b.now at n) × (result < 2 ^ (8 * n)) }
 {
-    let mut v: u64 = 0;
-    let mut i = n;
-    while i > 0 {
-        i -= 1;
-        v = v * 256 + wide(b[at + i]);
-    }
-    v
+    let mut bytes = [0; 8];
+    bytes[..n].copy_from_slice(&b[at..at + n]);
+    u64::from_le_bytes(bytes)
 }
 
 // The byte at place `at`.
@@ -55,7 +45,7 @@ pub fn half_word(b: &[u8], at: usize) -> u32
 pub fn low_half(x: u64) -> u32
     ensures { result ≡ x % 2 ^ 32 }
 {
-    (x & 0xffff_ffff) as u32
+    (x % 0x1_0000_0000) as u32
 }
 
 // Writes the n lowest bytes of v from place `at` on, the least first.
@@ -64,11 +54,9 @@ pub fn put(b: &mut [u8], at: usize, n: usize, v: u64)
     ensures { b.new ≡ sets b.old at (bytes_of n v) }
 {
     let mut rest = v;
-    let mut i: usize = 0;
-    while i < n {
-        b[at + i] = (rest % 256) as u8;
-        rest = rest / 256;
-        i += 1;
+    for byte in &mut b[at..at + n] {
+        *byte = (rest % 256) as u8;
+        rest /= 256;
     }
 }
 
@@ -76,81 +64,101 @@ pub fn put(b: &mut [u8], at: usize, n: usize, v: u64)
 pub fn signed_bits(x: i64) -> u64
     ensures { result ≡ bits_of x }
 {
-    if x < 0 {
-        18446744073709551615 - ((-1 - x) as u64)
-    } else {
-        x as u64
-    }
+    x.cast_unsigned()
 }
 
 // The number whose two's complement is b.
 pub fn signed_of(b: u64) -> i64
     ensures { result ≡ signed_of b }
 {
-    if b < 9223372036854775808 {
-        b as i64
-    } else {
-        -1 - ((18446744073709551615 - b) as i64)
+    b.cast_signed()
+}
+
+// Floats by their bit patterns, at `f64` and `f32`. All of a NaN's patterns stand for one NaN.
+pub trait Pattern {
+    type Bits;
+
+    ghost format: { Format };
+
+    ghost value: { Self → Float };
+
+    ghost word: { Self.Bits → ℕ };
+
+    // The float of a pattern, a NaN for any NaN's.
+    fn from_pattern(bits: Self::Bits) -> Self
+        ensures { value result ≡ Ieee.of_bits format (word bits) };
+
+    // The pattern of x. A NaN has the one that the definition gives it.
+    fn pattern(self) -> Self::Bits
+        ensures { word result ≡ Ieee.to_bits format (value self) };
+
+    // Whether x has the pattern. Any NaN matches any NaN's.
+    fn has_pattern(self, bits: Self::Bits) -> bool
+        ensures { result ≡ has_bits format (value self) (word bits) };
+}
+
+impl Pattern for f64 {
+    type Bits = u64;
+
+    ghost format = { binary64 };
+
+    ghost value = { λ x. x };
+
+    ghost word = { λ bits. bits };
+
+    fn from_pattern(bits: u64) -> f64
+        ensures { result ≡ Ieee.of_bits binary64 bits }
+    {
+        std::num::f64_from_bits_with_nan(bits)
+    }
+
+    fn pattern(self) -> u64
+        ensures { result ≡ Ieee.to_bits binary64 self }
+    {
+        std::num::f64_to_bits_with_nan(self)
+    }
+
+    #[tactic(auto, using(crate::proofs::Patterns::nan_has, crate::proofs::Patterns::number_has))]
+    fn has_pattern(self, bits: u64) -> bool
+        ensures { result ≡ has_bits binary64 self bits }
+    {
+        if self.is_nan() {
+            f64::from_pattern(bits).is_nan()
+        } else {
+            self.pattern() == bits
+        }
     }
 }
 
-// The `f64` of a bit pattern, a NaN for any NaN's.
-pub fn float_of(bits: u64) -> f64
-    ensures { result ≡ Ieee.of_bits binary64 bits }
-{
-    if bits & 0x7fff_ffff_ffff_ffff > 0x7ff0_0000_0000_0000 {
-        0.0 / 0.0
-    } else {
-        f64::from_bits(bits)
+impl Pattern for f32 {
+    type Bits = u32;
+
+    ghost format = { binary32 };
+
+    ghost value = { λ x. x };
+
+    ghost word = { λ bits. bits };
+
+    fn from_pattern(bits: u32) -> f32
+        ensures { result ≡ Ieee.of_bits binary32 bits }
+    {
+        std::num::f32_from_bits_with_nan(bits)
     }
-}
 
-// The `f32` of a bit pattern, a NaN for any NaN's.
-pub fn float32_of(bits: u32) -> f32
-    ensures { result ≡ Ieee.of_bits binary32 bits }
-{
-    if bits & 0x7fff_ffff > 0x7f80_0000 {
-        0.0 / 0.0
-    } else {
-        f32::from_bits(bits)
+    fn pattern(self) -> u32
+        ensures { result ≡ Ieee.to_bits binary32 self }
+    {
+        std::num::f32_to_bits_with_nan(self)
     }
-}
 
-// The bit pattern of x. A NaN has the one that the definition gives it.
-pub fn float_bits(x: f64) -> u64
-    ensures { result ≡ Ieee.to_bits binary64 x }
-{
-    if x != x {
-        0x7ff8_0000_0000_0000
-    } else {
-        f64::to_bits(x)
-    }
-}
-
-pub fn float32_bits(x: f32) -> u32
-    ensures { result ≡ Ieee.to_bits binary32 x }
-{
-    if x != x { 0x7fc0_0000 } else { f32::to_bits(x) }
-}
-
-// Whether x has the pattern `bits`. Any NaN matches any NaN's.
-pub fn same_bits(x: f64, bits: u64) -> bool
-    ensures { result ≡ has_bits binary64 x bits }
-{
-    if x != x {
-        bits & 0x7fff_ffff_ffff_ffff > 0x7ff0_0000_0000_0000
-    } else {
-        f64::to_bits(x) == bits
-    }
-}
-
-// The same of an `f32`.
-pub fn same_bits32(x: f32, bits: u32) -> bool
-    ensures { result ≡ has_bits binary32 x bits }
-{
-    if x != x {
-        bits & 0x7fff_ffff > 0x7f80_0000
-    } else {
-        f32::to_bits(x) == bits
+    #[tactic(auto, using(crate::proofs::Patterns::nan_has, crate::proofs::Patterns::number_has))]
+    fn has_pattern(self, bits: u32) -> bool
+        ensures { result ≡ has_bits binary32 self bits }
+    {
+        if self.is_nan() {
+            f32::from_pattern(bits).is_nan()
+        } else {
+            self.pattern() == bits
+        }
     }
 }

@@ -9,7 +9,7 @@ use Rattle.first_line.proofs.Across.{across_none, across_most, across_next}
 use Rattle.first_line.proofs.hits_across.Goals as goal
 
 pub loop-n-init : goal.loop-n-init
-loop-n-init c = (omega arith, across_none _ _ _ _)
+loop-n-init c = across_none _ _ _ _
 
 pub int_to_float-lines : goal.int_to_float-lines
 int_to_float-lines c = in_float_lem _ (omega arith)
@@ -20,9 +20,6 @@ overflow_add-lines c = omega arith
 pub int_to_float-lines-in-loop-n : goal.int_to_float-lines-in-loop-n
 int_to_float-lines-in-loop-n c = in_float_lem _ (omega arith)
 
-pub hit-requires : goal.hit-requires
-hit-requires c = tt
-
 pub overflow_cast-hits : goal.overflow_cast-hits
 overflow_cast-hits c = let o : c.hit.result ≤ 1 = rw c.hit.ensures (hit_small _ _ _) in omega arith
 
@@ -30,21 +27,15 @@ pub overflow_add-hits : goal.overflow_add-hits
 overflow_add-hits c =
     let l = c.loop-n in
     let o : c.hit.result ≤ 1 = rw c.hit.ensures (hit_small _ _ _) in
-    let h : l.hits ≤ l.n = rw l.invariant.1 (across_most _ _ _ _ l.n) in
+    let h : l.hits ≤ l.n = rw l.invariant (across_most _ _ _ _ l.n) in
     omega arith
-
-pub overflow_add-n : goal.overflow_add-n
-overflow_add-n c = omega arith
-
-pub loop-n-smaller : goal.loop-n-smaller
-loop-n-smaller c = omega arith
 
 pub loop-n-preserved : goal.loop-n-preserved
 unfolding lines_at column_part of_bits of_int
-loop-n-preserved c = (omega arith, across_next _ _ _ _ _ _ _ c.loop-n.invariant.1 c.hit.ensures)
+loop-n-preserved c = across_next _ _ _ _ _ _ _ c.loop-n.invariant c.hit.ensures
 
 pub returns : goal.returns
 returns c =
     let l = c.loop-n in
     let e : l.n ≡ c.args.width = omega arith in
-    rw (← e) l.invariant.1
+    rw (← e) l.invariant

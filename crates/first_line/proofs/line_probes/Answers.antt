@@ -1,11 +1,7 @@
 -- `first_line::line_probes` meets its contract. Assumes nothing.
-use Rattle.std.proofs.Common.{rules}
 use lib.Ieee.{of_bits, of_int}
 use Rattle.first_line.specs.Pulsed.{line_probes}
 use Rattle.first_line.proofs.line_probes.Goals as goal
-
-pub line_samples-requires : goal.line_samples-requires
-line_samples-requires c = search rules
 
 pub returns : goal.returns
 unfolding line_probes of_bits of_int

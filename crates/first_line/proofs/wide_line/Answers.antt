@@ -5,10 +5,7 @@ use Rattle.first_line.proofs.Across.{across_most, half_set_lem, half_clear, zero
 use Rattle.first_line.proofs.wide_line.Goals as goal
 
 pub loop-y-init : goal.loop-y-init
-loop-y-init c = (omega arith, λ k h. absurd (not-suc-le-zero h))
-
-pub hits_across-requires : goal.hits_across-requires
-hits_across-requires c = omega arith
+loop-y-init c = λ k h. absurd (not-suc-le-zero h)
 
 pub overflow_mul-hits_across : goal.overflow_mul-hits_across
 overflow_mul-hits_across c =
@@ -19,18 +16,12 @@ overflow_mul-hits_across c =
 pub returns-then-hits_across-width : goal.returns-then-hits_across-width
 returns-then-hits_across-width c =
     let l = c.loop-y in
-    zero_at _ _ l.y (omega arith) l.invariant.1 (half_set_lem _ _ _ _ _ _ c.hits_across.ensures c.if-hits_across-width.true)
-
-pub overflow_add-y : goal.overflow_add-y
-overflow_add-y c = omega arith
-
-pub loop-y-smaller : goal.loop-y-smaller
-loop-y-smaller c = omega arith
+    zero_at _ _ l.y (omega arith) l.invariant (half_set_lem _ _ _ _ _ _ c.hits_across.ensures c.if-hits_across-width.true)
 
 pub loop-y-preserved : goal.loop-y-preserved
 loop-y-preserved c =
     let l = c.loop-y in
-    (omega arith, below_next _ l.y l.invariant.1 (half_clear _ _ _ _ _ _ c.hits_across.ensures c.if-hits_across-width.false))
+    below_next _ l.y l.invariant (half_clear _ _ _ _ _ _ c.hits_across.ensures c.if-hits_across-width.false)
 
 pub returns : goal.returns
-returns c = zero_none _ _ c.loop-y.y (omega arith) c.loop-y.invariant.1
+returns c = zero_none _ _ c.loop-y.y (omega arith) c.loop-y.invariant

@@ -14,47 +14,32 @@ close_by d k h = omega arith
 some : (q : ℕ) → (q ≡ 0 → ⊥) → 0 < q
 some q h = omega arith
 
-pub wide_mul-p-requires : goal.wide_mul-p-requires
-wide_mul-p-requires c = search rules
-
 pub close-requires : goal.close-requires
-close-requires c = (search rules, search rules, hi_lt c.args.a c.args.b c.wide_mul-p.result.hi c.wide_mul-p.result.lo c.requires.2 c.wide_mul-p.ensures, lit< tt, lt_of_lt_of_le c.requires.6 (lit≤ tt))
+close-requires c = (hi_lt c.args.a c.args.b c.product-p.result.hi c.product-p.result.lo c.requires.0 c.product-p.ensures, lit< tt, lt_of_lt_of_le c.requires.4 (lit≤ tt))
 
 pub close-requires-then-q-eq0 : goal.close-requires-then-q-eq0
-close-requires-then-q-eq0 c = (c.requires.0, c.requires.1, hi_lt c.args.a c.args.b c.wide_mul-p.result.hi c.wide_mul-p.result.lo c.requires.2 c.wide_mul-p.ensures, lit< tt, lt_of_lt_of_le c.requires.5 (lit≤ tt))
-
-pub overflow_add-k : goal.overflow_add-k
-overflow_add-k c = search rules
+close-requires-then-q-eq0 c = (hi_lt c.args.a c.args.b c.product-p.result.hi c.product-p.result.lo c.requires.0 c.product-p.ensures, lit< tt, lt_of_lt_of_le c.requires.3 (lit≤ tt))
 
 pub far-requires : goal.far-requires
-far-requires c = (c.requires.0, c.requires.1, hi_lt c.args.a c.args.b c.wide_mul-p.result.hi c.wide_mul-p.result.lo c.requires.2 c.wide_mul-p.ensures, c.requires.3 (some c.args.q c.if-q-eq0.false), c.requires.4, c.if-d-k.true, lt_of_lt_of_le c.requires.6 (lit≤ tt))
-
-pub wide_shl-z-requires : goal.wide_shl-z-requires
-wide_shl-z-requires c = search rules
+far-requires c = (hi_lt c.args.a c.args.b c.product-p.result.hi c.product-p.result.lo c.requires.0 c.product-p.ensures, c.requires.1 (some c.args.q c.if-q-eq0.false), c.requires.2, c.if-d-k.true, lt_of_lt_of_le c.requires.4 (lit≤ tt))
 
 pub close-requires-then-d-k-2 : goal.close-requires-then-d-k-2
-close-requires-then-d-k-2 c = (c.requires.0, c.requires.1, hi_lt c.args.a c.args.b c.wide_mul-p.result.hi c.wide_mul-p.result.lo c.requires.2 c.wide_mul-p.ensures, zh_lt c.args.q (c.args.d - c.args.k) c.wide_shl-z.result.hi c.wide_shl-z.result.lo c.requires.4 (close_by c.args.d c.args.k c.if-d-k.false) c.wide_shl-z.ensures, lt_of_lt_of_le c.requires.5 (lit≤ tt))
-
-pub overflow_sub-k : goal.overflow_sub-k
-overflow_sub-k c = search rules
-
-pub jam-requires : goal.jam-requires
-jam-requires c = search rules
+close-requires-then-d-k-2 c = (hi_lt c.args.a c.args.b c.product-p.result.hi c.product-p.result.lo c.requires.0 c.product-p.ensures, zh_lt c.args.q (c.args.d - c.args.k) c.shifted.result.hi c.shifted.result.lo c.requires.2 (close_by c.args.d c.args.k c.if-d-k.false) c.shifted.ensures, lt_of_lt_of_le c.requires.3 (lit≤ tt))
 
 pub close-requires-else-d-k-2 : goal.close-requires-else-d-k-2
-close-requires-else-d-k-2 c = (c.requires.0, c.requires.1, hi_lt c.args.a c.args.b c.wide_mul-p.result.hi c.wide_mul-p.result.lo c.requires.2 c.wide_mul-p.ensures, lit< tt, lt_of_lt_of_le c.requires.5 (lit≤ tt))
+close-requires-else-d-k-2 c = (hi_lt c.args.a c.args.b c.product-p.result.hi c.product-p.result.lo c.requires.0 c.product-p.ensures, lit< tt, lt_of_lt_of_le c.requires.3 (lit≤ tt))
 
-pub returns-then-ph-eq0 : goal.returns-then-ph-eq0
-returns-then-ph-eq0 c = sum_second c.args.a c.args.b c.wide_mul-p.result.hi c.wide_mul-p.result.lo c.requires.2 c.wide_mul-p.ensures c.args.s c.args.k c.args.t c.args.q c.args.d c.close.result c.if-ph-eq0.true (search rules) c.close.ensures
+pub returns-then-p-eq0 : goal.returns-then-p-eq0
+returns-then-p-eq0 c = sum_second c.args.a c.args.b c.product-p.result.hi c.product-p.result.lo c.requires.0 c.product-p.ensures c.args.s c.args.k c.args.t c.args.q c.args.d c.close.result c.if-p-eq0.true (search rules) c.close.ensures
 
 pub returns-then-q-eq0 : goal.returns-then-q-eq0
-returns-then-q-eq0 c = sum_first c.args.a c.args.b c.wide_mul-p.result.hi c.wide_mul-p.result.lo c.requires.2 c.wide_mul-p.ensures c.args.s c.args.k c.args.t c.args.q c.args.d c.close-then-q-eq0.result c.if-q-eq0.true c.close-then-q-eq0.ensures
+returns-then-q-eq0 c = sum_first c.args.a c.args.b c.product-p.result.hi c.product-p.result.lo c.requires.0 c.product-p.ensures c.args.s c.args.k c.args.t c.args.q c.args.d c.close-then-q-eq0.result c.if-q-eq0.true c.close-then-q-eq0.ensures
 
 pub returns-then-d-k : goal.returns-then-d-k
-returns-then-d-k c = sum_far c.args.a c.args.b c.wide_mul-p.result.hi c.wide_mul-p.result.lo c.requires.2 c.wide_mul-p.ensures c.args.s c.args.k c.args.t c.args.q c.args.d c.far.result c.far.ensures
+returns-then-d-k c = sum_far c.args.a c.args.b c.product-p.result.hi c.product-p.result.lo c.requires.0 c.product-p.ensures c.args.s c.args.k c.args.t c.args.q c.args.d c.far.result c.far.ensures
 
 pub returns-then-d-k-2 : goal.returns-then-d-k-2
-returns-then-d-k-2 c = sum_above c.args.a c.args.b c.wide_mul-p.result.hi c.wide_mul-p.result.lo c.requires.2 c.wide_mul-p.ensures c.args.s c.args.k c.args.t c.args.q c.args.d c.wide_shl-z.result.hi c.wide_shl-z.result.lo c.close-then-d-k-2.result c.if-d-k-2.true c.wide_shl-z.ensures c.close-then-d-k-2.ensures
+returns-then-d-k-2 c = sum_above c.args.a c.args.b c.product-p.result.hi c.product-p.result.lo c.requires.0 c.product-p.ensures c.args.s c.args.k c.args.t c.args.q c.args.d c.shifted.result.hi c.shifted.result.lo c.close-then-d-k-2.result c.if-d-k-2.true c.shifted.ensures c.close-then-d-k-2.ensures
 
 pub returns-else-d-k-2 : goal.returns-else-d-k-2
-returns-else-d-k-2 c = sum_below c.args.a c.args.b c.wide_mul-p.result.hi c.wide_mul-p.result.lo c.requires.2 c.wide_mul-p.ensures c.args.s c.args.k c.args.t c.args.q c.args.d c.jam.result c.close-else-d-k-2.result c.if-ph-eq0.false c.if-d-k-2.false c.requires.4 c.jam.ensures c.close-else-d-k-2.ensures
+returns-else-d-k-2 c = sum_below c.args.a c.args.b c.product-p.result.hi c.product-p.result.lo c.requires.0 c.product-p.ensures c.args.s c.args.k c.args.t c.args.q c.args.d c.jam.result c.close-else-d-k-2.result c.if-p-eq0.false c.if-d-k-2.false c.requires.2 c.jam.ensures c.close-else-d-k-2.ensures

@@ -1,13 +1,6 @@
 -- `fma::digits_of` meets its contract. Assumes nothing.
-use borrow.Author.Rules.{rules}
 use Rattle.fma.proofs.Limbs.{digits_normal, zeros_fit, zeros_ge, zeros_lt, zeros_le, digits_subnormal, digits_none}
 use Rattle.fma.proofs.digits_of.Goals as goal
-
-pub overflow_add-result : goal.overflow_add-result
-overflow_add-result c = search rules
-
-pub overflow_add-result-then-e-gt0 : goal.overflow_add-result-then-e-gt0
-overflow_add-result-then-e-gt0 c = search rules
 
 pub overflow_cast-n : goal.overflow_cast-n
 overflow_cast-n c = record { fits = zeros_fit c.args.t c.requires.1 c.if-t-gt0.true }

@@ -1,13 +1,6 @@
 -- `fma::jam` meets its contract. Assumes nothing.
-use borrow.Author.Rules.{rules}
 use Rattle.fma.proofs.Cutting.{jam_none, jam_all, jam_even, jam_odd}
 use Rattle.fma.proofs.jam.Goals as goal
-
-pub overflow_shr-q : goal.overflow_shr-q
-overflow_shr-q c = search rules
-
-pub overflow_shl-q : goal.overflow_shl-q
-overflow_shl-q c = search rules
 
 pub returns-then-w-eq0 : goal.returns-then-w-eq0
 returns-then-w-eq0 c = jam_none c.args.w c.args.n c.if-w-eq0.true

@@ -2,17 +2,7 @@
 use mathlib.Core.Path.{sym, subst}
 use lib.Dec.{T}
 use Rattle.fma.proofs.Fusing.{special_left, special_right, special_added, all_back}
-use borrow.Author.Rules.{rules}
 use Rattle.fma.proofs.mul_add.Goals as goal
-
-pub finite-requires : goal.finite-requires
-finite-requires c = search rules
-
-pub finite-requires-then-finite : goal.finite-requires-then-finite
-finite-requires-then-finite c = search rules
-
-pub finite-requires-then-finite-2 : goal.finite-requires-then-finite-2
-finite-requires-then-finite-2 c = search rules
 
 pub float_to_bits-x : goal.float_to_bits-x
 float_to_bits-x c = (c.finite.ensures.finite c.if-finite.true).0

@@ -1,5 +1,4 @@
 -- `fma::top63` meets its contract. Assumes nothing.
-use borrow.Author.Rules.{rules}
 use native.Mathlib.Omega.{arith}
 use Prim.Native.Nat.{ℕ, ◌-◌, ◌<◌, ◌≤◌}
 use mathlib.Core.Path.{◌≡◌}
@@ -15,29 +14,14 @@ less c h = omega arith
 within : (c : ℕ) → c ≤ 63 → c ≤ 64
 within c h = omega arith
 
-pub jam-requires : goal.jam-requires
-jam-requires c = search rules
-
-pub jam-requires-else-b-eq0 : goal.jam-requires-else-b-eq0
-jam-requires-else-b-eq0 c = search rules
-
-pub overflow_sub-v : goal.overflow_sub-v
-overflow_sub-v c = search rules
-
 pub overflow_shl-v : goal.overflow_shl-v
 overflow_shl-v c = less c.args.c (c_le c.args.a c.args.b c.args.c c.ranges.a.fits c.ranges.b.fits c.requires.0 c.requires.1)
 
 pub overflow_sub-v-else-c-eq0 : goal.overflow_sub-v-else-c-eq0
 overflow_sub-v-else-c-eq0 c = within c.args.c (c_le c.args.a c.args.b c.args.c c.ranges.a.fits c.ranges.b.fits c.requires.0 c.requires.1)
 
-pub overflow_shr-v-else-c-eq0 : goal.overflow_shr-v-else-c-eq0
-overflow_shr-v-else-c-eq0 c = search rules
-
 pub overflow_add-v : goal.overflow_add-v
 overflow_add-v c = record { fits = v_lt c.args.a c.args.b c.args.c c.ranges.a.fits c.ranges.b.fits c.requires.0 c.requires.1 (some c.args.c c.if-c-eq0.false) }
-
-pub overflow_sub-c : goal.overflow_sub-c
-overflow_sub-c c = search rules
 
 pub overflow_shl-b : goal.overflow_shl-b
 overflow_shl-b c = less c.args.c (c_le c.args.a c.args.b c.args.c c.ranges.a.fits c.ranges.b.fits c.requires.0 c.requires.1)

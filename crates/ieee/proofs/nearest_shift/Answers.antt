@@ -1,5 +1,5 @@
 -- `ieee::nearest_shift` meets its contract. Assumes nothing.
-use Rattle.std.proofs.Common.{◌≡◌, ℕ, suc, ◌+◌, ◌-◌, ◌*◌, ◌/◌, ◌%◌, ◌^◌, ◌<◌, ◌≤◌, sym, ap, ◌∙◌, subst, one-mul, arith, lit<, pow_pos, pow_mono, shl_exact, rules}
+use Rattle.std.proofs.Common.{◌≡◌, ℕ, suc, ◌+◌, ◌-◌, ◌*◌, ◌/◌, ◌%◌, ◌^◌, ◌<◌, ◌≤◌, sym, ap, ◌∙◌, subst, one-mul, arith, lit<, pow_pos, pow_mono, shl_exact}
 use lib.Bits.{bit_and, and_mask, mask_lt}
 use lib.Ieee.Nearest.{closest}
 use Rattle.ieee.proofs.Closest.{closest_shift}
@@ -49,23 +49,11 @@ module _ (w sh : ℕ) (a : 1 ≤ sh) (b : sh < 64) (d : w < 2 ^ 63) where
 pub returns : goal.returns
 returns c = result c.args.w c.args.sh c.requires.0 c.requires.1 c.requires.2
 
-pub overflow_sub-half : goal.overflow_sub-half
-overflow_sub-half c = search rules
-
-pub overflow_shl-half : goal.overflow_shl-half
-overflow_shl-half c = search rules
-
 pub overflow_sub-result : goal.overflow_sub-result
 overflow_sub-result c = half_pos c.args.w c.args.sh c.requires.0 c.requires.1 c.requires.2
 
 pub overflow_add-result : goal.overflow_add-result
 overflow_add-result c = record { fits = sum_fits c.args.w c.args.sh c.requires.0 c.requires.1 c.requires.2 }
 
-pub overflow_shr-result : goal.overflow_shr-result
-overflow_shr-result c = search rules
-
 pub overflow_add-result-2 : goal.overflow_add-result-2
 overflow_add-result-2 c = record { fits = sum2_fits c.args.w c.args.sh c.requires.0 c.requires.1 c.requires.2 (mask_lt (c.args.w / 2 ^ c.args.sh) 1) }
-
-pub overflow_shr-result-2 : goal.overflow_shr-result-2
-overflow_shr-result-2 c = search rules

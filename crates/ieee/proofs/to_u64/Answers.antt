@@ -1,6 +1,6 @@
 -- `ieee::to_u64` meets its contract: the shifted digits where the exponent is small, std's own cast up to 2 ^ 64, and the range's end from there on.
 -- Assumes nothing.
-use Rattle.std.proofs.Common.{ℕ, ◌/◌, ◌^◌, ◌≤◌, T, sym, subst, arith, rules}
+use Rattle.std.proofs.Common.{ℕ, ◌/◌, ◌^◌, ◌≤◌, T, sym, subst, arith}
 use lib.Ieee.{Float, binary64, fits, le, lt, to_bits}
 use lib.Ieee.Positive.{above, above_of_le}
 use Rattle.std.proofs.num.Truncating.{one, at_least_one, under_one, below_one, cut_down}
@@ -29,12 +29,6 @@ overflow_sub-result c =
     let h = more _ c.if-exponent-le1054.true in
     from_1023 x f a (below x f a h) h
 
-pub overflow_shl-result : goal.overflow_shl-result
-overflow_shl-result c = search rules
-
-pub overflow_shr-result-then-exponent-le1075 : goal.overflow_shr-result-then-exponent-le1075
-overflow_shr-result-then-exponent-le1075 c = search rules
-
 pub truncating_f64_to_u64-requires : goal.truncating_f64_to_u64-requires
 truncating_f64_to_u64-requires c =
     let p = positive c.args.x (at_least_one c.args.x c.if-x.true) in
@@ -53,9 +47,6 @@ returns-then-exponent-le1075 c =
     let f : T (fits binary64 x) = subst T (sym c.well_formed.0.1) tt in
     let a = at_least_one x c.if-x.true in
     cut_down x f a (below x f a c.if-exponent-le1075.true) c.if-exponent-le1075.true
-
-pub returns-then-x-2 : goal.returns-then-x-2
-returns-then-x-2 c = search rules
 
 pub returns-else-x-2 : goal.returns-else-x-2
 returns-else-x-2 c = sym (unsigned_top c.args.x (positive c.args.x (at_least_one c.args.x c.if-x.true)) (rw two_to_64_is at (no c.if-x-2.false)))

@@ -6,7 +6,6 @@ use native.Mathlib.Omega.{arith}
 use lib.Ieee.{Float, eq, of_bits, of_int}
 use borrow.Author.Tests.{lt-ltb}
 use Rattle.ieee.specs.Numbers.{decimal}
-use Rattle.ieee.proofs.Whole.{in_float_lem}
 use Rattle.hough.specs.Pass.{angle_of}
 use Rattle.ledger.specs.Ledger.{index_at}
 use Rattle.ledger.proofs.index_at.Goals as goal
@@ -17,13 +16,10 @@ same q angle h e = rw (lt-ltb q 240 h, e)
 other : (q : ℕ) (angle : Float) → q < 240 → eq (angle_of q) angle ≡ false → 254 ≡ index_at q angle
 other q angle h e = rw (lt-ltb q 240 h, e)
 
-pub int_to_float-q : goal.int_to_float-q
-int_to_float-q c = in_float_lem _ (omega arith)
-
 pub returns-then-q-angle : goal.returns-then-q-angle
 unfolding angle_of of_bits of_int decimal
 returns-then-q-angle c = same _ _ (omega arith) c.if-q-angle.true
 
-pub returns : goal.returns
+pub returns-else-q-angle : goal.returns-else-q-angle
 unfolding angle_of of_bits of_int decimal
-returns c = other _ _ (omega arith) c.if-q-angle.false
+returns-else-q-angle c = other _ _ (omega arith) c.if-q-angle.false

@@ -8,6 +8,6 @@ pub returns-in-None : goal.returns-in-None
 unfolding slant_index
 returns-in-None c = ap slant_index (sym c.in-None.is)
 
-pub returns-in-Degrees : goal.returns-in-Degrees
+pub returns-in-Some : goal.returns-in-Some
 unfolding slant_index of_bits of_int
-returns-in-Degrees c = rw (c.in-Degrees.is, c.index_at.ensures, c.to_u64.ensures)
+returns-in-Some c = rw (c.in-Some.is, c.index_at.ensures, c.to_u64.ensures)

@@ -1,18 +1,18 @@
--- `limits::unsound` meets its contract. Below -1, up to 1, or above it and NaN.
--- Assumes nothing.
-use mathlib.Core.Path.{sym}
-use lib.Ieee.{of_bits, neg}
-use Rattle.limits.proofs.Samples.{sound_low, sound_mid, sound_high}
+-- `limits::unsound` meets its contract: below -1, up to 1, or above it and NaN. Assumes nothing.
+use Rattle.std.proofs.Common.{◌≡◌, Bool, true, false, not, sym, refl, ◌∙◌}
+use lib.Ieee.{Float, of_bits, neg, le, lt}
+use Rattle.limits.specs.Ranges.{unsound}
+use Rattle.limits.proofs.Samples.{low, high, sound_low, sound_mid, sound_high}
 use Rattle.limits.proofs.unsound.Goals as goal
+
+not_below : (x : Float) → lt x low ≡ false → (b : Bool) → le x high ≡ b → not b ≡ unsound x
+not_below x h true e = sym (sound_mid x h e)
+not_below x h false e = sym (sound_high x h e)
 
 pub returns-then-x : goal.returns-then-x
 unfolding of_bits neg
-returns-then-x c = sym (sound_low c.args.x c.if-x.true)
+returns-then-x c = c.if-x.true ∙ sym (sound_low c.args.x c.if-x.true)
 
-pub returns-then-x-2 : goal.returns-then-x-2
+pub returns-else-x : goal.returns-else-x
 unfolding of_bits neg
-returns-then-x-2 c = sym (sound_mid c.args.x c.if-x.false c.if-x-2.true)
-
-pub returns : goal.returns
-unfolding of_bits neg
-returns c = sym (sound_high c.args.x c.if-x.false c.if-x-2.false)
+returns-else-x c = not_below c.args.x c.if-x.false (le c.args.x high) refl

@@ -6,34 +6,19 @@ use lib.Ieee.{of_bits}
 use Rattle.line_parity.proofs.Tones.{vote_none, vote_next, odd_never, odd_by}
 use Rattle.line_parity.proofs.first_line_is_odd.Goals as goal
 
-pub has_parity_tone-requires : goal.has_parity_tone-requires
-has_parity_tone-requires c = tt
-
 pub returns-then-not-has_parity_tone : goal.returns-then-not-has_parity_tone
 returns-then-not-has_parity_tone c = odd_never _ _ _ _ _ c.has_parity_tone.ensures (ap not c.if-not-has_parity_tone.true)
 
-pub window_lines-lines-requires : goal.window_lines-lines-requires
-window_lines-lines-requires c = tt
-
 pub loop-k-init : goal.loop-k-init
 unfolding of_bits
-loop-k-init c = (omega arith, vote_none _ _ _)
-
-pub vote_on-vote-requires : goal.vote_on-vote-requires
-vote_on-vote-requires c = omega arith
-
-pub overflow_add-k : goal.overflow_add-k
-overflow_add-k c = omega arith
-
-pub loop-k-smaller : goal.loop-k-smaller
-loop-k-smaller c = omega arith
+loop-k-init c = vote_none _ _ _
 
 pub loop-k-preserved : goal.loop-k-preserved
-loop-k-preserved c = let l = c.loop-k in (omega arith, vote_next _ _ _ _ _ _ l.invariant.1 c.vote_on-vote.ensures)
+loop-k-preserved c = vote_next _ _ _ _ _ _ c.loop-k.invariant c.vote_on-vote.ensures
 
 pub returns : goal.returns
 unfolding of_bits
 returns c =
     let l = c.loop-k in
     let e : l.k ≡ c.window_lines-lines.result = omega arith in
-    odd_by _ _ _ _ c.window_lines-lines.result _ _ c.has_parity_tone.ensures (ap not c.if-not-has_parity_tone.false) c.window_lines-lines.ensures (rw (← e) l.invariant.1)
+    odd_by _ _ _ _ c.window_lines-lines.result _ _ c.has_parity_tone.ensures (ap not c.if-not-has_parity_tone.false) c.window_lines-lines.ensures (rw (← e) l.invariant)

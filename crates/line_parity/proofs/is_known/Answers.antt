@@ -1,11 +1,7 @@
 -- `line_parity::is_known` meets its contract. Assumes nothing.
 use lib.Ieee.{of_bits}
 use Rattle.line_parity.proofs.Tones.{known_at_lem, known_short, known_before}
-use borrow.Author.Rules.{rules}
 use Rattle.line_parity.proofs.is_known.Goals as goal
-
-pub to_u64-requires : goal.to_u64-requires
-to_u64-requires c = search rules
 
 pub returns-then-n-ge-TONE_SAMPLES : goal.returns-then-n-ge-TONE_SAMPLES
 unfolding of_bits

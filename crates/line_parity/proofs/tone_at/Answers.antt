@@ -3,17 +3,10 @@ use native.Mathlib.Omega.{arith}
 use lib.Ieee.{of_bits, of_int}
 use Rattle.line_parity.specs.Parity.{tone_at}
 use Rattle.ieee.proofs.Whole.{in_float_lem}
-use borrow.Author.Rules.{rules}
 use Rattle.line_parity.proofs.tone_at.Goals as goal
-
-pub separator_seconds-separator-requires : goal.separator_seconds-separator-requires
-separator_seconds-separator-requires c = search rules
 
 pub int_to_float-k : goal.int_to_float-k
 int_to_float-k c = in_float_lem _ (omega arith)
-
-pub round-requires : goal.round-requires
-round-requires c = search rules
 
 pub returns : goal.returns
 unfolding tone_at of_bits of_int

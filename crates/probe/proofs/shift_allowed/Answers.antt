@@ -1,14 +1,11 @@
--- `probe::shift_allowed` meets its contract. The second test is made where the first holds.
+-- `probe::shift_allowed` meets its contract. Both ends are finite.
 -- Assumes nothing.
+use Rattle.std.proofs.Common.{◌∙◌}
 use lib.Ieee.{of_bits, of_int, neg}
 use Rattle.probe.specs.Refusals.{shift_allowed, between}
-use Rattle.probe.proofs.Testing.{both, not_both}
+use Rattle.probe.proofs.Testing.{float_le}
 use Rattle.probe.proofs.shift_allowed.Goals as goal
 
-pub returns-then-shift : goal.returns-then-shift
+pub returns : goal.returns
 unfolding shift_allowed between of_bits of_int neg
-returns-then-shift c = both _ c.if-shift.true
-
-pub returns-else-shift : goal.returns-else-shift
-unfolding shift_allowed between of_bits of_int neg
-returns-else-shift c = not_both _ c.if-shift.false
+returns c = c.contains.ensures.value ∙ rw (c.new.ensures.exhausted, c.new.ensures.start, c.new.ensures.end, float_le, float_le)

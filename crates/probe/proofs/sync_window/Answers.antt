@@ -2,7 +2,6 @@
 -- Assumes nothing.
 use mathlib.Core.Path.{sym, ◌∙◌}
 use Rattle.probe.proofs.Answers.{centre_high, buffer_other, sound_bad, window_filled}
-use borrow.Author.Rules.{rules}
 use Rattle.probe.proofs.sync_window.Goals as goal
 
 pub returns-then-centre-gt-MAX_ANCHOR : goal.returns-then-centre-gt-MAX_ANCHOR
@@ -11,21 +10,9 @@ returns-then-centre-gt-MAX_ANCHOR c = centre_high _ _ _ c.if-centre-gt-MAX_ANCHO
 pub returns-then-buffer-ne512 : goal.returns-then-buffer-ne512
 returns-then-buffer-ne512 c = buffer_other _ _ _ c.if-centre-gt-MAX_ANCHOR.false c.if-buffer-ne512.true
 
-pub any_unsound-requires : goal.any_unsound-requires
-any_unsound-requires c = search rules
-
 pub returns-then-any_unsound : goal.returns-then-any_unsound
 returns-then-any_unsound c =
     sound_bad _ _ _ c.if-centre-gt-MAX_ANCHOR.false c.if-buffer-ne512.false (sym c.any_unsound.ensures ∙ c.if-any_unsound.true)
-
-pub hann_16-weights-requires : goal.hann_16-weights-requires
-hann_16-weights-requires c = search rules
-
-pub fill-requires : goal.fill-requires
-fill-requires c = search rules
-
-pub shape_of-buffer : goal.shape_of-buffer
-shape_of-buffer c = search rules
 
 pub returns : goal.returns
 returns c =

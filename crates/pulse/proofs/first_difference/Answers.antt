@@ -1,48 +1,32 @@
--- `pulse::first_difference` meets its contract. Assumes nothing.
-use mathlib.Core.Path.{◌≡◌, ap, ap₂, ◌∙◌}
-use mathlib.Core.List.{List}
-use Prim.Native.Nat.{ℕ, ◌^◌, ◌<◌}
-use native.Mathlib.Omega.{arith}
-use lib.IntN.{ℤ, pos, ◌-ℤ◌}
-use lib.ListN.{get_or}
-use lib.Signed.{mag}
-use mir.Syntax.{w64}
-use mir.Val.{to_z}
-use mir.ValLaws.{to_z_pos}
-use Rattle.limits.proofs.Signed.{fits_as, kept_as}
-use Rattle.pulse.specs.Sliding.{difference_at}
-use Rattle.pulse.proofs.Sliding.{four_below, difference_below}
+-- `pulse::first_difference` meets its contract: the two sums are small. Assumes nothing.
+use Rattle.std.proofs.Common.{◌≡◌, ◌≤◌, arith, ◌∙◌}
+use Rattle.std.proofs.lemmas.Int.{ints}
+use Rattle.pulse.specs.Edge.{four_from}
+use Rattle.pulse.proofs.Sums.{sum_taken}
+use Rattle.pulse.proofs.Sliding.{four_below}
 use Rattle.pulse.proofs.first_difference.Goals as goal
 
--- the two sums, which are small
-module _ (c : goal.After-sum_from-low) where
-  abbrev counts : List ℕ
-  counts = c.args.counts.now
+module _ (c : goal.After-sum_of-low) where
+  high : c.sum_of-high.result ≡ four_from c.args.counts.now 0
+  high = c.sum_of-high.ensures ∙ sum_taken c.args.counts.now 0 4 (omega arith)
 
-  counts_below : (k : ℕ) → get_or counts k 0 < 2 ^ 32
-  counts_below k = (c.type_inv.counts k).fits
+  low : c.sum_of-low.result ≡ four_from c.args.counts.now 4
+  low = c.sum_of-low.ensures ∙ sum_taken c.args.counts.now 4 4 (omega arith)
 
-  high_below : c.sum_from-high.result < 2 ^ 63
-  high_below = omega (arith, c.sum_from-high.ensures, four_below counts counts_below 0)
+  high_below : c.sum_of-high.result ≤ 17179869180
+  high_below = omega (arith, high, four_below c.args.counts.now (λ k. (c.type_inv.counts k).fits) 0)
 
-  low_below : c.sum_from-low.result < 2 ^ 63
-  low_below = omega (arith, c.sum_from-low.ensures, four_below counts counts_below 4)
-
-  less_is : to_z w64 c.sum_from-high.result -ℤ to_z w64 c.sum_from-low.result ≡ difference_at counts 0
-  less_is =
-      ap₂ (λ (y z : ℤ). y -ℤ z) (to_z_pos w64 _ high_below ∙ ap pos c.sum_from-high.ensures) (to_z_pos w64 _ low_below ∙ ap pos c.sum_from-low.ensures)
-
-  less_small : mag (difference_at counts 0) < 2 ^ 63
-  less_small = omega (arith, difference_below counts counts_below 0)
+  low_below : c.sum_of-low.result ≤ 17179869180
+  low_below = omega (arith, low, four_below c.args.counts.now (λ k. (c.type_inv.counts k).fits) 4)
 
 pub overflow_cast-result : goal.overflow_cast-result
-overflow_cast-result c = record { sfits = high_below c }
+overflow_cast-result c = record { sfits = omega (arith, high_below c) }
 
 pub overflow_cast-result-2 : goal.overflow_cast-result-2
-overflow_cast-result-2 c = record { sfits = low_below c }
+overflow_cast-result-2 c = record { sfits = omega (arith, low_below c) }
 
 pub overflow_sub-result : goal.overflow_sub-result
-overflow_sub-result c = fits_as (less_is c) (less_small c)
+overflow_sub-result c = search (arith, ints, high_below c, low_below c)
 
 pub returns : goal.returns
-returns c = kept_as (less_is c) (less_small c)
+returns c = omega (arith, ints, high c, low c, high_below c, low_below c)

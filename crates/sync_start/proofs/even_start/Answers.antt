@@ -1,10 +1,6 @@
 -- `sync_start::even_start` meets its contract. Assumes nothing.
 use Rattle.sync_start.specs.Evaluate.{even_start}
-use Rattle.std.proofs.Common.{rules}
 use Rattle.sync_start.proofs.even_start.Goals as goal
-
-pub line_samples-requires : goal.line_samples-requires
-line_samples-requires c = search rules
 
 pub returns-then-odd : goal.returns-then-odd
 unfolding even_start

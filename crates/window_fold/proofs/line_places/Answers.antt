@@ -4,7 +4,8 @@ use mathlib.Core.List.{List}
 use Prim.Native.Nat.{ℕ, ◌<◌}
 use native.Mathlib.Omega.{arith}
 use lib.Ieee.{Float, add, binary64}
-use lib.ListN.{get_or, length-set}
+use borrow.Author.Rules.{rules}
+use lib.ListN.{length, get_or, length-set}
 use Rattle.ieee.specs.Numbers.{of_nat}
 use Rattle.columns.specs.Columns.{column_part, probe_of, list_to}
 use Rattle.window_fold.specs.Fold.{lines_at}
@@ -24,36 +25,15 @@ int_to_float-line c = in_float_lem _ (omega arith)
 
 pub loop-x-init : goal.loop-x-init
 unfolding list_to
-loop-x-init c = (omega arith, c.requires.2, refl)
-
-pub offset_bounds-parts-x : goal.offset_bounds-parts-x
-offset_bounds-parts-x c = omega arith
-
-pub bounds-parts-x : goal.bounds-parts-x
-bounds-parts-x c = omega arith
-
-pub probe_at-requires : goal.probe_at-requires
-probe_at-requires c = tt
-
-pub offset_bounds-places-x : goal.offset_bounds-places-x
-offset_bounds-places-x c = omega arith
-
-pub bounds-places-x : goal.bounds-places-x
-bounds-places-x c = omega arith
-
-pub overflow_add-x : goal.overflow_add-x
-overflow_add-x c = omega arith
-
-pub loop-x-smaller : goal.loop-x-smaller
-loop-x-smaller c = omega arith
+loop-x-init c = let n : length c.args.places.now ≡ 700 = search rules in (n, refl)
 
 pub loop-x-preserved : goal.loop-x-preserved
 loop-x-preserved c =
-    (omega arith, simp length-set c.loop-x.invariant.1, write_next (place c.args.samples c.args.y) c.loop-x.places c.loop-x.x _ (omega arith) c.loop-x.invariant.2 (c.probe_at.ensures ∙ ap (λ (t : Float). probe_of t c.args.samples) (lines_are c.args.y c.loop-x.x c.args.parts.now _ (omega arith) c.requires.1)))
+    (simp length-set c.loop-x.invariant.0, write_next (place c.args.samples c.args.y) c.loop-x.places c.loop-x.x _ (omega arith) c.loop-x.invariant.1 (c.probe_at.ensures ∙ ap (λ (t : Float). probe_of t c.args.samples) (lines_are c.args.y c.loop-x.x c.args.parts.now _ (omega arith) c.requires.1)))
 
 pub returns : goal.returns
 unfolding places_of
 returns c =
     let l = c.loop-x in
     let e : l.x ≡ 700 = omega arith in
-    all_written _ l.places 700 l.invariant.1 (rw e at l.invariant.2)
+    all_written _ l.places 700 l.invariant.0 (rw e at l.invariant.1)

@@ -1,6 +1,6 @@
 -- `window_fold::line_places` meets its contract. The loop's invariant: the columns before x have their places. Assumes nothing.
 use mathlib.Core.Path.{◌≡◌}
-use Prim.Native.Nat.{ℕ, ◌≤◌, ◌-◌}
+use Prim.Native.Nat.{ℕ}
 use lib.Ieee.{Float}
 use lib.ListN.{length, take}
 use Rattle.columns.specs.Columns.{probe_of, list_to}
@@ -12,7 +12,4 @@ abbrev pub place : Float → ℕ → ℕ → ℕ
 place samples y x = probe_of (lines_at y x) samples
 
 abbrev pub invariant-loop-x : goal.invariant-loop-x
-invariant-loop-x l = (l.x ≤ 700) × (length l.places ≡ 700) × (take l.x l.places ≡ list_to (place l.samples l.y) l.x)
-
-abbrev pub decreases-loop-x : goal.decreases-loop-x
-decreases-loop-x l = 700 - l.x
+invariant-loop-x l = (length l.places ≡ 700) × (take l.x l.places ≡ list_to (place l.samples l.y) l.x)

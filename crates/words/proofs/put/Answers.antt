@@ -1,33 +1,16 @@
 -- Answers of the goals that the check leaves.
-use borrow.Author.Rules.{rules}
-use native.Mathlib.Numerals.{add-one}
-use native.Mathlib.Omega.{arith}
-use Rattle.words.proofs.Storing.{none, next, done}
+use Rattle.std.proofs.Common.{length-take, length-drop, arith}
+use Rattle.words.proofs.Storing.{none, next, done, put_back}
 use Rattle.words.proofs.put.Goals as goal
 
-pub loop-i-init : goal.loop-i-init
-loop-i-init c = none _ _ _ _
+pub loop-byte-init : goal.loop-byte-init
+loop-byte-init c = none _ _ _ (simp (length-take, length-drop) (omega arith))
 
-pub overflow_cast-b : goal.overflow_cast-b
-overflow_cast-b c = search rules
-
-pub overflow_add-b : goal.overflow_add-b
-overflow_add-b c = omega arith
-
-pub bounds-b-at : goal.bounds-b-at
-bounds-b-at c = omega arith
-
-pub overflow_add-i : goal.overflow_add-i
-overflow_add-i c = omega arith
-
-pub loop-i-smaller : goal.loop-i-smaller
-loop-i-smaller c = omega arith
-
-pub loop-i-preserved : goal.loop-i-preserved
-loop-i-preserved c = rw add-one (next _ _ _ _ _ _ _ c.loop-i.invariant c.loop-i-test.true)
-
-pub shape_of-b : goal.shape_of-b
-shape_of-b c = c.loop-i.invariant.size
+pub loop-byte-preserved : goal.loop-byte-preserved
+loop-byte-preserved c = next _ _ _ _ _ c.loop-byte.invariant (omega (arith, c.loop-byte.invariant.size))
 
 pub returns : goal.returns
-returns c = done _ _ _ _ _ _ _ c.loop-i.invariant c.loop-i-test.false
+returns c =
+    let s = c.loop-byte.invariant in
+    let a = c.args in
+    rw (← done a.n a.v c.loop-byte.byte-items c.loop-byte.rest c.loop-byte.byte-index s (omega arith)) (put_back a.b.now c.loop-byte.byte-items a.at a.n c.requires s.size)

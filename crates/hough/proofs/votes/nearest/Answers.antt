@@ -1,15 +1,11 @@
 -- `hough::votes::nearest` meets its contract. Assumes nothing.
-use mathlib.Core.Path.{◌∙◌, ap}
-use borrow.Author.Rules.{rules}
-use native.Mathlib.Nat.{le_of_lt, le_trans}
+use native.Mathlib.Nat.{le_of_lt}
 use mathlib.Core.Bool.{false}
 use Prim.Native.Nat.{ℕ, ◌-◌, ◌^◌}
 use lib.Bits.{bit_and, mask_lt}
-use lib.Dec.{lit≤}
 use lib.IntN.{pos}
-use lib.Ieee.{Float, fin, binary64, add, neg, of_bits, to_bits, to_unsigned}
+use lib.Ieee.{Float, fin, binary64, add, neg, of_bits, to_bits}
 use Rattle.ieee.specs.Numbers.{decimal}
-use Rattle.ieee.proofs.Whole.{in_float_lem}
 use Rattle.hough.proofs.Offsets.{is_true, guessed, sum_no_nan}
 use Rattle.hough.proofs.votes.nearest.Goals as goal
 
@@ -21,21 +17,8 @@ pub float_to_bits-guess : goal.float_to_bits-guess
 unfolding of_bits decimal
 float_to_bits-guess c = sum_no_nan c.args.u 52 (is_true c.requires)
 
-pub int_to_float-off : goal.int_to_float-off
-unfolding of_bits
-int_to_float-off c = let b = low c.args.u in in_float_lem (bit_and b (2 ^ 16 - 1)) (le_trans (le_of_lt (mask_lt b 16)) (lit≤ tt))
-
 pub returns-then-off-2 : goal.returns-then-off-2
 unfolding of_bits decimal neg
 returns-then-off-2 c =
     let b = low c.args.u in
     guessed c.args.u (bit_and b (2 ^ 16 - 1)) (le_of_lt (mask_lt b 16)) (is_true c.requires) (is_true c.if-off.true) (is_true c.if-off-2.true)
-
-pub round-requires : goal.round-requires
-round-requires c = search rules
-
-pub to_u64-requires : goal.to_u64-requires
-to_u64-requires c = search rules
-
-pub returns : goal.returns
-returns c = c.to_u64.ensures ∙ ap (to_unsigned 64) c.round.ensures

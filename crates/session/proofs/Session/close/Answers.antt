@@ -1,17 +1,10 @@
 -- `session::Session::close` meets its contract. The end comes with F flags.
 -- Assumes nothing.
 use Rattle.session.proofs.Steps.{close_idle, close_done}
-use borrow.Author.Rules.{rules}
 use Rattle.session.proofs.Session.close.Goals as goal
 
 pub returns-then-self : goal.returns-then-self
 returns-then-self c = close_idle c.args.self c.if-self.true
 
-pub end_of-requires : goal.end_of-requires
-end_of-requires c = search rules
-
-pub with_phase-requires : goal.with_phase-requires
-with_phase-requires c = search rules
-
 pub returns : goal.returns
-returns c = close_done c.args.self c.end_of.result c.with_phase.result c.if-self.false c.end_of.ensures c.with_phase.ensures
+returns c = close_done c.args.self c.end_of.result c.if-self.false c.end_of.ensures

@@ -17,10 +17,10 @@ returns-in_default c =
     let x = c.args in
     finish_other x.self x.store.now x.img.now x.votes.now c.in_default.not-Collecting
 
-pub returns-then-taken-full : goal.returns-then-taken-full
-returns-then-taken-full c =
+pub returns-then-self-full : goal.returns-then-self-full
+returns-then-self-full c =
     let x = c.args in
-    collect_idle x.self c.in-Collecting.s x.store.now x.img.now x.votes.now c.in-Collecting.is c.requires.taken_in_bounds.0 (λ h. c.if-taken-full.true (h ∙ sym c.full-full.ensures))
+    collect_idle x.self c.in-Collecting.start x.store.now x.img.now x.votes.now c.in-Collecting.is c.requires.taken_in_bounds.0 (λ h. c.if-self-full.true (h ∙ sym c.full-full.ensures))
 
 pub find_sync_in-report-requires : goal.find_sync_in-report-requires
 find_sync_in-report-requires c =
@@ -32,8 +32,8 @@ returns c =
     let found = c.find_sync_in-report in
     let s = c.args.self in
     let st = c.args.store.now in
-    let f = c.first_flag-f.result in
+    let f = c.first_flag-first.result in
     let t = c.full-full.result in
-    collect_done s c.in-Collecting.s st c.args.img.now c.args.votes.now found.new.img found.new.votes found.result f t c.with_phase.result
-    c.in-Collecting.is c.requires.taken_in_bounds.0 c.if-taken-full.false c.full-full.ensures c.first_flag-f.ensures
-    (found.ensures.result ∙ ap (λ (v : ModeSpec). sync_result_of v working_rate (take (t - f) (drop f st))) c.for_mode-spec.ensures) found.ensures.img found.ensures.votes c.with_phase.ensures
+    collect_done s c.in-Collecting.start st c.args.img.now c.args.votes.now found.new.img found.new.votes found.result f t
+    c.in-Collecting.is c.requires.taken_in_bounds.0 c.if-self-full.false c.full-full.ensures c.first_flag-first.ensures
+    (found.ensures.result ∙ ap (λ (v : ModeSpec). sync_result_of v working_rate (take (t - f) (drop f st))) c.for_mode-spec.ensures) found.ensures.img found.ensures.votes

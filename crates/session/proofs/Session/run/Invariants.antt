@@ -5,8 +5,8 @@ use lib.ListN.{length}
 use Rattle.session.proofs.Loop.{Part}
 use Rattle.session.proofs.Session.run.Given as goal
 
-abbrev pub invariant-loop-i : goal.invariant-loop-i
-invariant-loop-i l = Part l.initial.s l.initial.store l.initial.audio l.initial.img l.initial.votes l.flags l.samples l.i l.s l.store l.audio l.img l.votes
+abbrev pub invariant-loop-taken : goal.invariant-loop-taken
+invariant-loop-taken l = Part l.initial.session l.initial.store l.initial.audio l.initial.img l.initial.votes l.flags l.samples l.taken l.session l.store l.audio l.img l.votes
 
-abbrev pub decreases-loop-i : goal.decreases-loop-i
-decreases-loop-i l = length l.flags - l.i
+abbrev pub decreases-loop-taken : goal.decreases-loop-taken
+decreases-loop-taken l = length l.flags - l.taken

@@ -19,8 +19,8 @@ due_later mode taken w e h =
           rw (le-leb (window_of mode) k (omega arith), ne_eqb ((k - window_of mode) % 64) 0 no);
     }
 
-pub returns-then-taken-w : goal.returns-then-taken-w
-returns-then-taken-w c = due_first c.args.mode c.args.taken c.window-w.result c.window-w.ensures.is c.if-taken-w.true
+pub returns-then-taken-window : goal.returns-then-taken-window
+returns-then-taken-window c = due_first c.args.mode c.args.taken c.window-window.result c.window-window.ensures.is c.if-taken-window.true
 
-pub returns : goal.returns
-returns c = due_later c.args.mode c.args.taken c.window-w.result c.window-w.ensures.is c.if-taken-w.false
+pub returns-else-taken-window : goal.returns-else-taken-window
+returns-else-taken-window c = due_later c.args.mode c.args.taken c.window-window.result c.window-window.ensures.is c.if-taken-window.false

@@ -3,16 +3,10 @@
 use lib.Ieee.{of_bits}
 use Rattle.modespec.specs.declared.ModeSpec.{ModeSpec}
 use Rattle.modespec.specs.Sizes.{image_probes, working_rate}
-use Rattle.std.proofs.Common.{◌≡◌, ap, ◌∙◌, rules}
+use Rattle.std.proofs.Common.{◌≡◌, ap, ◌∙◌}
 use Rattle.plain.specs.Plain.{picture_of}
 use Rattle.plain.proofs.Sizes.{picture_small}
 use Rattle.session_parts.proofs.phases.picture.Goals as goal
-
-pub for_mode-spec-requires : goal.for_mode-spec-requires
-for_mode-spec-requires c = search rules
-
-pub image_probes-requires : goal.image_probes-requires
-image_probes-requires c = search rules
 
 pub returns : goal.returns
 unfolding picture_of of_bits

@@ -1,9 +1,0 @@
--- The measure is what is left.
-use Rattle.std.proofs.Common.{◌-◌, length}
-use Rattle.lent_memory.proofs.fill16.Given as goal
-
-abbrev pub invariant-loop-i : goal.invariant-loop-i
-invariant-loop-i l = Unit {0}
-
-abbrev pub decreases-loop-i : goal.decreases-loop-i
-decreases-loop-i l = length l.memory - l.i

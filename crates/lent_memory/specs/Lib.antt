@@ -1,0 +1,3 @@
+-- Lent memory and the pieces that are fed. Definitions only.
+pub mod Lent
+pub mod Pieces

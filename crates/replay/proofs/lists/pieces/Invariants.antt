@@ -1,9 +1,0 @@
--- The measure is the places that are left.
-use Rattle.std.proofs.Common.{◌-◌}
-use Rattle.replay.proofs.lists.pieces.Given as goal
-
-abbrev pub invariant-loop-k : goal.invariant-loop-k
-invariant-loop-k l = Unit {0}
-
-abbrev pub decreases-loop-k : goal.decreases-loop-k
-decreases-loop-k l = l.all - l.k
