@@ -1,13 +1,19 @@
--- The columns of a mode's pulse, and what column counts tell, as the C records say them (include/funnelivy.h; 01-scope.md, "Fold and pulse
--- window"). Definitions only.
+-- The sizes of a mode, the columns of its pulse, and what column counts tell, as the C records say them (include/funnelivy.h; 01-scope.md,
+-- "Modes", "Fold and pulse window"). Definitions only.
 use Rattle.std.specs.Prelude.{ℕ, false, pos, Float, Result, Ok, Err}
 use Rattle.std.specs.Float.{fin}
 use Rattle.limits.specs.declared.Refusal.{Refusal}
 use Rattle.limits.specs.Refusals.{number_of}
+use Rattle.modespec.specs.declared.Sizes.{Sizes}
 use Rattle.pulse.specs.declared.BestWindow.{BestWindow}
+use Rattle.c_answer.specs.declared.FunnelivySizesAnswer.{FunnelivySizesAnswer}
 use Rattle.c_answer.specs.declared.FunnelivyColumnsAnswer.{FunnelivyColumnsAnswer}
 use Rattle.c_answer.specs.declared.FunnelivyWindowAnswer.{FunnelivyWindowAnswer}
 use Rattle.c_answer.specs.declared.FunnelivyQualityAnswer.{FunnelivyQualityAnswer}
+
+abbrev pub sizes_wire : Result Sizes Refusal → FunnelivySizesAnswer
+sizes_wire (Ok sizes) = record { refusal = 0; window = sizes.window; picture = sizes.picture }
+sizes_wire (Err e) = record { refusal = number_of e; window = 0; picture = 0 }
 
 -- the columns of a pulse, and the column of the falling edge
 abbrev pub columns_wire : Result ℕ Refusal → FunnelivyColumnsAnswer

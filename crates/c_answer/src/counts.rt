@@ -1,10 +1,31 @@
-// The columns of a pulse, and what the column counts of a fold tell, as records of numbers.
+// The sizes of a mode, the columns of its pulse, and what the column counts of a fold tell, as records of numbers.
 ghost use Rattle.std.specs.Prelude.{◌≡◌};
-ghost use Rattle.c_answer.specs.Counts.{columns_wire, window_wire, quality_wire};
+ghost use Rattle.c_answer.specs.Counts.{sizes_wire, columns_wire, window_wire, quality_wire};
 
-use crate::{FunnelivyColumnsAnswer, FunnelivyQualityAnswer, FunnelivyWindowAnswer};
+use crate::{
+    FunnelivyColumnsAnswer, FunnelivyQualityAnswer, FunnelivySizesAnswer, FunnelivyWindowAnswer,
+};
 use limits::Refusal;
+use modespec::Sizes;
 use pulse::BestWindow;
+
+impl From<Result<Sizes, Refusal>> for FunnelivySizesAnswer {
+    ghost from_gives = { λ answer r. r ≡ sizes_wire answer };
+
+    fn from(answer: Result<Sizes, Refusal>) -> FunnelivySizesAnswer {
+        match answer {
+            Ok(sizes) => FunnelivySizesAnswer {
+                refusal: 0,
+                window: sizes.window as u64,
+                picture: sizes.picture as u64,
+            },
+            Err(refusal) => FunnelivySizesAnswer {
+                refusal: refusal.number().into(),
+                ..Default::default()
+            },
+        }
+    }
+}
 
 // The columns of a mode's pulse, or the column of the falling edge.
 impl From<Result<usize, Refusal>> for FunnelivyColumnsAnswer {
@@ -17,7 +38,7 @@ impl From<Result<usize, Refusal>> for FunnelivyColumnsAnswer {
                 columns: columns as u64,
             },
             Err(refusal) => FunnelivyColumnsAnswer {
-                refusal: refusal.number() as u32,
+                refusal: refusal.number().into(),
                 ..Default::default()
             },
         }
@@ -36,7 +57,7 @@ impl From<Result<BestWindow, Refusal>> for FunnelivyWindowAnswer {
                 windows: best.windows as u64,
             },
             Err(refusal) => FunnelivyWindowAnswer {
-                refusal: refusal.number() as u32,
+                refusal: refusal.number().into(),
                 ..Default::default()
             },
         }
@@ -53,7 +74,7 @@ impl From<Result<f32, Refusal>> for FunnelivyQualityAnswer {
                 quality,
             },
             Err(refusal) => FunnelivyQualityAnswer {
-                refusal: refusal.number() as u32,
+                refusal: refusal.number().into(),
                 ..Default::default()
             },
         }

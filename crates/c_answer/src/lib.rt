@@ -1,10 +1,11 @@
 // Answers of the C interface's single calls as records of numbers, as include/funnelivy.h declares them.
-// A record has the refusal's number or 0, and 0 in every field that the answer does not have.
+// A record has the refusal's number or 0, and 0 in every field that the answer does not have. The C interface has a refusal and a flag
+// (has_slant, has_sync) as numbers. The header has a struct of its own for each answer; a trait for its refusal would have an impl for each.
 #![tactic(auto)]
 
-pub mod counts;
-pub mod report;
-pub mod sound;
+mod counts;
+mod report;
+mod sound;
 
 #[repr(C)]
 #[derive(Clone, Copy, Default)]

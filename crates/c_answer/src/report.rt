@@ -13,14 +13,14 @@ impl From<Result<SyncResult, Refusal>> for FunnelivyReportAnswer {
         match answer {
             Ok(result) => FunnelivyReportAnswer {
                 refusal: 0,
-                has_slant: result.slant_deg.is_some() as u32,
+                has_slant: result.slant_deg.is_some().into(),
                 rate: result.adjusted_rate_hz,
                 slant: result.slant_deg.unwrap_or(0.0),
                 skip: result.skip_samples,
                 quality: result.sync_quality,
             },
             Err(refusal) => FunnelivyReportAnswer {
-                refusal: refusal.number() as u32,
+                refusal: refusal.number().into(),
                 ..Default::default()
             },
         }

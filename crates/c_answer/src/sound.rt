@@ -1,18 +1,9 @@
-// The answers of the two spectrum calls, as numbers.
+// The answer of `has_sync_at` as a record of numbers.
 ghost use Rattle.std.specs.Prelude.{◌≡◌};
-ghost use Rattle.c_answer.specs.Sound.{refusal_of, decision_wire};
+ghost use Rattle.c_answer.specs.Sound.{decision_wire};
 
 use crate::FunnelivyDecisionAnswer;
 use limits::Refusal;
-
-pub fn refusal_of(answer: Result<(), Refusal>) -> u32
-    ensures { result ≡ refusal_of answer }
-{
-    match answer {
-        Ok(()) => 0,
-        Err(refusal) => refusal.number() as u32,
-    }
-}
 
 impl From<Result<bool, Refusal>> for FunnelivyDecisionAnswer {
     ghost from_gives = { λ answer r. r ≡ decision_wire answer };
@@ -21,10 +12,10 @@ impl From<Result<bool, Refusal>> for FunnelivyDecisionAnswer {
         match answer {
             Ok(has_sync) => FunnelivyDecisionAnswer {
                 refusal: 0,
-                has_sync: has_sync as u32,
+                has_sync: has_sync.into(),
             },
             Err(refusal) => FunnelivyDecisionAnswer {
-                refusal: refusal.number() as u32,
+                refusal: refusal.number().into(),
                 ..Default::default()
             },
         }

@@ -66,11 +66,6 @@ refused_by k = record { refusal = k; card = no_card }
 
 -- ---- the answers
 
--- the refusal's number, 0 where the card was written
-abbrev pub written_wire : Result Unit Refusal → ℕ
-written_wire (Ok u) = 0
-written_wire (Err e) = number_of e
-
 -- the card that was read, or the card of a session
 abbrev pub read_wire : Result Card Refusal → FunnelivyCardAnswer
 read_wire (Ok c) = holding c

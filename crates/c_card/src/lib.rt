@@ -1,9 +1,11 @@
-// A ledger card and the answers of its calls as records of numbers, as include/funnelivy.h declares them, and which card a record says.
-// A refused answer has the refusal's number, and 0 in every other field.
+// A ledger card and the answers of its calls as records of numbers, as include/funnelivy.h declares them, and which card a record stands for.
+// A refused answer has the refusal's number, and 0 in every other field. The C interface has a refusal, an end and a slant as numbers; a host
+// may hand in any end and slant, and the writer refuses those that no card has. The header has a struct of its own for each answer; a trait
+// for its refusal would have an impl for each.
 #![tactic(auto)]
 
 ghost use Rattle.std.specs.Prelude.{◌≡◌};
-ghost use Rattle.c_card.specs.Cards.{card_of_wire, card_wire, written_wire, read_wire};
+ghost use Rattle.c_card.specs.Cards.{card_of_wire, card_wire, read_wire};
 
 use card::Card;
 use limits::Refusal;
@@ -75,16 +77,6 @@ impl From<Card> for FunnelivyCard {
 
 // ---- the answers
 
-// The refusal's number, 0 where the card was written. `c_answer` has the same for a window, but this crate does not stand on it.
-pub fn written_wire(answer: Result<(), Refusal>) -> u32
-    ensures { result ≡ written_wire answer }
-{
-    match answer {
-        Ok(()) => 0,
-        Err(refusal) => refusal.number() as u32,
-    }
-}
-
 // The card that was read, or the card of a session.
 impl From<Result<Card, Refusal>> for FunnelivyCardAnswer {
     ghost from_gives = { λ answer r. r ≡ read_wire answer };
@@ -96,7 +88,7 @@ impl From<Result<Card, Refusal>> for FunnelivyCardAnswer {
                 card: card.into(),
             },
             Err(refusal) => FunnelivyCardAnswer {
-                refusal: refusal.number() as u32,
+                refusal: refusal.number().into(),
                 ..Default::default()
             },
         }

@@ -3,7 +3,7 @@ ghost use Rattle.std.specs.Prelude.{◌≡◌};
 ghost use Rattle.c_record.specs.Session.{opened_wire, fed_wire, end_wire, reading_wire};
 
 use crate::{FunnelivyFed, FunnelivyOpened, FunnelivyReading};
-use limits::Refusal;
+use limits::{Ending, Refusal};
 use plain::{End, Reading};
 use session::{Fed, Session};
 
@@ -19,7 +19,7 @@ impl From<Result<Session, Refusal>> for FunnelivyOpened {
                 session: session.into(),
             },
             Err(refusal) => FunnelivyOpened {
-                refusal: refusal.number() as u32,
+                refusal: refusal.number().into(),
                 ..Default::default()
             },
         }
@@ -39,7 +39,7 @@ impl From<Result<Fed, Refusal>> for FunnelivyFed {
                 session: fed.session.into(),
             },
             Err(refusal) => FunnelivyFed {
-                refusal: refusal.number() as u32,
+                refusal: refusal.number().into(),
                 ..Default::default()
             },
         }
@@ -68,27 +68,30 @@ impl From<Reading> for FunnelivyReading {
                 skip,
                 quality,
             } => FunnelivyReading {
-                end: 0,
+                end: Ending::Reported.number().into(),
                 start,
                 rate,
                 slant: slant.unwrap_or(0.0),
                 skip,
                 start_quality,
                 quality,
-                has_slant: slant.is_some() as u32,
-                windows: windows as u32,
+                has_slant: slant.is_some().into(),
+                windows: windows.into(),
                 ..counts
             },
-            End::Unfound => FunnelivyReading { end: 1, ..counts },
+            End::Unfound => FunnelivyReading {
+                end: Ending::Unfound.number().into(),
+                ..counts
+            },
             End::CutShort {
                 start,
                 windows,
                 start_quality,
             } => FunnelivyReading {
-                end: 2,
+                end: Ending::CutShort.number().into(),
                 start,
                 start_quality,
-                windows: windows as u32,
+                windows: windows.into(),
                 ..counts
             },
         }
@@ -102,7 +105,7 @@ impl From<Result<Reading, Refusal>> for FunnelivyReading {
         match given {
             Ok(reading) => reading.into(),
             Err(refusal) => FunnelivyReading {
-                refusal: refusal.number() as u32,
+                refusal: refusal.number().into(),
                 ..Default::default()
             },
         }

@@ -1,5 +1,7 @@
-// A session and the answers of its calls as records of numbers, as include/funnelivy.h declares them, and which session a record says.
-// A record has the refusal's number or 0, and 0 in every field that the answer does not have.
+// A session and the answers of its calls as records of numbers, as include/funnelivy.h declares them, and which session a record stands for.
+// A record has the refusal's number or 0, and 0 in every field that the answer does not have. The C interface has a refusal, a phase, an
+// end and has_slant as numbers, and a host may hand back any. The header has a struct of its own for each answer; a trait for its refusal
+// would have an impl for each.
 #![tactic(auto)]
 
 mod calls;

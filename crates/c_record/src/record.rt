@@ -1,11 +1,38 @@
-// A session as a record of numbers, and back. The record of a session says the same session.
+// A session as a record of numbers, and back. The record of a session stands for the same session.
 ghost use Rattle.std.specs.Prelude.{◌≡◌};
-ghost use Rattle.c_record.specs.Record.{slant_of, start_of, report_of, phase_of, session_of, wire_by, session_wire};
+ghost use Rattle.c_record.specs.Record.{slant_of, start_of, report_of, phase_of, session_of, session_wire};
+ghost use Rattle.c_record.specs.Phases.{phase_numbered};
 
 use crate::FunnelivySession;
 use plain::{Phase, Start};
 use session::Session;
 use sync::SyncResult;
+
+// ---- the phase's number
+
+#[derive(Clone, Copy)]
+enum PhaseNumber {
+    Searching = 0,
+    Collecting = 1,
+    Reported = 2,
+    Unfound = 3,
+    CutShort = 4,
+}
+
+// Any number is a phase: one above 4, which no session has, counts as unfound.
+impl From<u8> for PhaseNumber {
+    ghost from_gives = { λ number phase. phase ≡ phase_numbered number };
+
+    fn from(number: u8) -> PhaseNumber {
+        match number {
+            0 => PhaseNumber::Searching,
+            1 => PhaseNumber::Collecting,
+            2 => PhaseNumber::Reported,
+            4 => PhaseNumber::CutShort,
+            _ => PhaseNumber::Unfound,
+        }
+    }
+}
 
 // ---- from the record
 
@@ -16,7 +43,7 @@ impl FunnelivySession {
         (self.has_slant != 0).then_some(self.slant)
     }
 
-    fn found(self) -> Start
+    fn start(self) -> Start
         ensures { result ≡ start_of self }
     {
         Start {
@@ -37,16 +64,15 @@ impl FunnelivySession {
         }
     }
 
-    // Any number is a phase: one above 4, which no session has, counts as unfound.
     fn session_phase(self) -> Phase
         ensures { result ≡ phase_of self }
     {
-        match self.phase {
-            0 => Phase::Searching,
-            1 => Phase::Collecting(self.found()),
-            2 => Phase::Reported(self.found(), self.report()),
-            4 => Phase::CutShort(self.found()),
-            _ => Phase::Unfound,
+        match PhaseNumber::from(self.phase) {
+            PhaseNumber::Searching => Phase::Searching,
+            PhaseNumber::Collecting => Phase::Collecting(self.start()),
+            PhaseNumber::Reported => Phase::Reported(self.start(), self.report()),
+            PhaseNumber::Unfound => Phase::Unfound,
+            PhaseNumber::CutShort => Phase::CutShort(self.start()),
         }
     }
 }
@@ -69,51 +95,35 @@ impl From<FunnelivySession> for Session {
 
 // ---- to the record
 
-const NO_START: Start = Start {
-    position: 0,
-    quality: 0.0,
-    windows: 0,
-};
-
-const NO_REPORT: SyncResult = SyncResult {
-    adjusted_rate_hz: 0.0,
-    skip_samples: 0,
-    slant_deg: None,
-    sync_quality: 0.0,
-};
-
-fn wire(phase: u8, s: Session, start: Start, report: SyncResult) -> FunnelivySession
-    ensures { result ≡ wire_by phase s start report }
-{
-    FunnelivySession {
-        anchor: s.anchor,
-        capacity: s.capacity as u64,
-        taken: s.taken as u64,
-        evaluations: s.evaluations as u64,
-        streak: s.streak,
-        position: start.position,
-        rate: report.adjusted_rate_hz,
-        slant: report.slant_deg.unwrap_or(0.0),
-        skip: report.skip_samples,
-        start_quality: start.quality,
-        quality: report.sync_quality,
-        windows: start.windows,
-        mode: s.mode,
-        phase,
-        has_slant: report.slant_deg.is_some() as u8,
-    }
-}
-
 impl From<Session> for FunnelivySession {
     ghost from_gives = { λ s w. w ≡ session_wire s };
 
     fn from(s: Session) -> FunnelivySession {
-        match s.phase {
-            Phase::Searching => wire(0, s, NO_START, NO_REPORT),
-            Phase::Collecting(start) => wire(1, s, start, NO_REPORT),
-            Phase::Reported(start, report) => wire(2, s, start, report),
-            Phase::Unfound => wire(3, s, NO_START, NO_REPORT),
-            Phase::CutShort(start) => wire(4, s, start, NO_REPORT),
+        // What a phase does not have is 0.
+        let (no_start, no_report) = (Start::default(), SyncResult::default());
+        let (phase, start, report) = match s.phase {
+            Phase::Searching => (PhaseNumber::Searching, no_start, no_report),
+            Phase::Collecting(start) => (PhaseNumber::Collecting, start, no_report),
+            Phase::Reported(start, report) => (PhaseNumber::Reported, start, report),
+            Phase::Unfound => (PhaseNumber::Unfound, no_start, no_report),
+            Phase::CutShort(start) => (PhaseNumber::CutShort, start, no_report),
+        };
+        FunnelivySession {
+            anchor: s.anchor,
+            capacity: s.capacity as u64,
+            taken: s.taken as u64,
+            evaluations: s.evaluations as u64,
+            streak: s.streak,
+            position: start.position,
+            rate: report.adjusted_rate_hz,
+            slant: report.slant_deg.unwrap_or(0.0),
+            skip: report.skip_samples,
+            start_quality: start.quality,
+            quality: report.sync_quality,
+            windows: start.windows,
+            mode: s.mode,
+            phase: phase as u8,
+            has_slant: report.slant_deg.is_some().into(),
         }
     }
 }

@@ -2,5 +2,6 @@
 mod Parts
 mod NoNan
 mod Examples
+pub mod Calls
 pub mod Accepted
 pub mod RoundTrip

@@ -3,6 +3,7 @@ use Rattle.std.specs.Prelude.{ℕ, ◌^◌, Bool, false, cond, not, ◌&&◌, �
 use Rattle.std.specs.Float.{inf, fin, binary32, binary64}
 use Rattle.std.specs.Float.Ieee.{lt, le, to_bits, of_bits}
 use Rattle.std.specs.Result.{result_and}
+use Rattle.std.specs.Cmp.Lexicographic.{pointwise}
 use Rattle.limits.specs.declared.Refusal.{Refusal}
 use Rattle.limits.specs.declared.Refusal.TheVariants as why
 use Rattle.limits.specs.Refusals.{◌⇒◌, first_of, is_allowed}
@@ -120,3 +121,7 @@ read_refusal bs =
 
 unfoldable pub read_answer : List ℕ → Result Card Refusal
 read_answer bs = result_and (read_refusal bs) (Ok (card_of bs))
+
+-- the writer takes the card, and these are the bytes that it writes
+unfoldable pub written_as : Card → List ℕ → Bool
+written_as c bs = is_allowed (write_answer c 56) && pointwise eqb (card_bytes c) bs

@@ -15,9 +15,9 @@ pub fn put_head(version: u16, mode: u8, end: u8, out: &mut [u8])
     ensures { out.new ≡ sets out.old 0 (head_bytes version mode end) }
 {
     words::put(out, 0, 3, MARK);
-    words::put(out, 3, 2, version as u64);
-    words::put(out, 5, 1, mode as u64);
-    words::put(out, 6, 1, end as u64);
+    words::put(out, 3, 2, u64::from(version));
+    words::put(out, 5, 1, u64::from(mode));
+    words::put(out, 6, 1, u64::from(end));
 }
 
 // Taken, evaluations and start: places 7 to 30.
@@ -35,11 +35,11 @@ pub fn put_report(card: Card, out: &mut [u8])
     requires { 56 ≤ length out.old }
     ensures { out.new ≡ sets out.old 31 (report_bytes card) }
 {
-    words::put(out, 31, 4, card.start_quality.pattern() as u64);
+    words::put(out, 31, 4, u64::from(card.start_quality.pattern()));
     words::put(out, 35, 8, card.rate.pattern());
-    words::put(out, 43, 1, card.slant as u64);
+    words::put(out, 43, 1, u64::from(card.slant));
     words::put(out, 44, 8, words::signed_bits(card.skip));
-    words::put(out, 52, 4, card.quality.pattern() as u64);
+    words::put(out, 52, 4, u64::from(card.quality.pattern()));
 }
 
 pub fn put_card(card: Card, out: &mut [u8])
@@ -57,7 +57,7 @@ pub fn is_marked(version: u16, bytes: &[u8]) -> bool
     requires { 5 ≤ length bytes.now }
     ensures { result ≡ marked version bytes.now }
 {
-    words::number(bytes, 0, 3) == MARK && words::number(bytes, 3, 2) == version as u64
+    words::number(bytes, 0, 3) == MARK && words::number(bytes, 3, 2) == u64::from(version)
 }
 
 // The fields behind mark and version.

@@ -5,12 +5,21 @@ mod check;
 mod fields;
 
 ghost use Rattle.std.specs.Prelude.{◌≡◌, length};
-ghost use Rattle.card.specs.Card.{write_answer, buffer_after, read_answer};
+ghost use Rattle.card.specs.Card.{write_answer, buffer_after, read_answer, written_as};
 
 use limits::Refusal;
 
-// What a card holds. `end` is 0 for reported, 1 for unfound and 2 for cut short, and `slant` the index of the slant's angle, 255 for none.
-// Both are numbers, since a host may hand in any byte, and the writer refuses a wrong one.
+// The length of a card.
+pub const CARD_BYTES: usize = 56;
+
+// A slant's angle is one of 240, and its index is below this.
+pub const ANGLES: u8 = 240;
+
+// The sign of no slant in place of an index.
+pub const NO_SLANT: u8 = 255;
+
+// What a card holds. `end` is the number of an ending, and `slant` the index of the slant's angle, or `NO_SLANT`. Both are numbers, since a host
+// may hand in any byte, and the writer refuses a wrong one.
 #[derive(Clone, Copy)]
 pub struct Card {
     pub mode: u8,
@@ -31,7 +40,7 @@ pub fn write_card(card: Card, out: &mut [u8]) -> Result<(), Refusal>
     ensures value { result ≡ write_answer card (length out.old) }
     ensures out_after { out.new ≡ buffer_after card out.old }
 {
-    if out.len() != 56 {
+    if out.len() != CARD_BYTES {
         return Err(Refusal::CardLength);
     }
     if card.is_wrong() {
@@ -46,7 +55,7 @@ pub fn write_card(card: Card, out: &mut [u8]) -> Result<(), Refusal>
 pub fn read_card(bytes: &[u8]) -> Result<Card, Refusal>
     ensures { result ≡ read_answer bytes.now }
 {
-    if bytes.len() != 56 {
+    if bytes.len() != CARD_BYTES {
         return Err(Refusal::CardLength);
     }
     if !fields::is_marked(1, bytes) {
@@ -57,4 +66,13 @@ pub fn read_card(bytes: &[u8]) -> Result<Card, Refusal>
         return Err(Refusal::CardField);
     }
     Ok(card)
+}
+
+// Whether a card is written as these bytes.
+#[tactic(auto, unfolding(crate::specs::Card::written_as, crate::specs::Card::write_answer, crate::specs::Card::buffer_after))]
+pub fn is_written_as(card: Card, bytes: &[u8]) -> bool
+    ensures { result ≡ written_as card bytes.now }
+{
+    let mut out = [0; CARD_BYTES];
+    write_card(card, &mut out).is_ok() && out.as_slice() == bytes
 }

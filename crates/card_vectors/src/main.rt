@@ -39,6 +39,7 @@ fn card_of(fields: &[u8]) -> Card
     }
 }
 
+// Whether these are the card's fields, each to the bit: `==` of cards would take -0.0 for 0.0.
 fn has_fields(card: Card, fields: &[u8]) -> bool {
     fields.len() == FIELD_BYTES
         && u64::from(card.mode) == words::word(fields, 0)
@@ -55,16 +56,10 @@ fn has_fields(card: Card, fields: &[u8]) -> bool {
 
 // ---- read
 
-// Whether a card is written as these bytes.
-fn is_written_as(card: Card, bytes: &[u8]) -> bool {
-    let mut out = [MARK; 56];
-    card::write_card(card, &mut out).is_ok() && out.as_slice() == bytes
-}
-
 // Whether bytes are refused with x, or for 0 are read as a card that writes back as the same bytes.
 fn refusal_is_right(bytes: &[u8], x: u64) -> bool {
     match card::read_card(bytes) {
-        Ok(card) => x == 0 && is_written_as(card, bytes),
+        Ok(card) => x == 0 && card::is_written_as(card, bytes),
         Err(refusal) => u64::from(refusal.number()) == x,
     }
 }
@@ -77,12 +72,10 @@ fn fields_are_right(bytes: &[u8], fields: &[u8]) -> bool {
 }
 
 fn read_is_right(case: &Case) -> bool {
-    match case.payload.split_at_checked(case.a as usize) {
-        Some((bytes, fields)) => {
-            refusal_is_right(bytes, case.x) && fields_are_right(bytes, fields)
-        }
-        None => false,
-    }
+    let Some((bytes, fields)) = case.payload.split_at_checked(case.a as usize) else {
+        return false;
+    };
+    refusal_is_right(bytes, case.x) && fields_are_right(bytes, fields)
 }
 
 // The same of each value of the card's byte at place a.
@@ -111,26 +104,23 @@ fn write_is_right(case: &Case) -> bool {
     let Some((fields, bytes)) = case.payload.split_at_checked(FIELD_BYTES) else {
         return false;
     };
-    if case.x == 0 && bytes.len() != 56 {
+    if case.x == 0 && bytes.len() != card::CARD_BYTES {
         return false;
     }
+    // an array: its length is fixed, and longer than a card's
     let mut out = [MARK; 64];
     let Some(buffer) = out.get_mut(..case.a as usize) else {
         return false;
     };
-    let number = match card::write_card(card_of(fields), buffer) {
-        Ok(()) => 0,
-        Err(refusal) => u64::from(refusal.number()),
-    };
-    number == case.x && is_marked_behind(&out, bytes)
+    let number = limits::number_or_zero(card::write_card(card_of(fields), buffer));
+    u64::from(number) == case.x && is_marked_behind(&out, bytes)
 }
 
 // Whether a memory has these bytes at its front, and marks behind them.
 fn is_marked_behind(memory: &[u8], bytes: &[u8]) -> bool {
-    match memory.strip_prefix(bytes) {
-        Some(rest) => rest.iter().all(|x| *x == MARK),
-        None => false,
-    }
+    memory
+        .strip_prefix(bytes)
+        .is_some_and(|rest| rest.iter().all(|x| *x == MARK))
 }
 
 // ---- records
@@ -144,7 +134,7 @@ fn is_right(case: Case) -> bool {
     }
 }
 
-// What a record is counted as: by its operation and its refusal.
+// What a record is counted as, by its operation and its refusal: the place in the list of names, of which an enum would be a copy.
 fn kind(case: &Case) -> u64 {
     match (case.op, case.x) {
         (0, 0) => 0,

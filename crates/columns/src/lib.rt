@@ -3,7 +3,7 @@
 
 mod parts;
 
-ghost use Rattle.std.specs.Prelude.{◌≡◌, ◌≤◌};
+ghost use Rattle.std.specs.Prelude.{◌≡◌, ◌≤◌, get_or};
 ghost use Rattle.columns.specs.Columns.{list_to, column_part, probe_of};
 
 // x / 700 for each column x. A table beside `column_parts`: each evaluation of the start search takes 0.22 microseconds for its copy,
@@ -14,7 +14,8 @@ pub fn column_parts_700() -> [f64; 700]
     parts::COLUMN_PARTS
 }
 
-// x / w for each of 700 columns x, worked out once and not in each row.
+// x / w for each of 700 columns x, worked out once and not in each row. The bound on w is asked here: a type for one number would be
+// opened at each use.
 pub fn column_parts(w: usize) -> [f64; 700]
     requires { w ≤ 65536 }
     ensures { result ≡ list_to (column_part w) 700 }
@@ -28,4 +29,11 @@ pub fn probe_at(time: f64, samples: f64) -> usize
     ensures { result ≡ probe_of time samples }
 {
     ieee::to_u64(time * samples / 4.0) as usize
+}
+
+// The flag of a number: 0 beyond the last.
+pub fn flag(flags: &[u8], i: usize) -> u8
+    ensures { result ≡ get_or flags.now i 0 }
+{
+    flags.get(i).copied().unwrap_or(0)
 }

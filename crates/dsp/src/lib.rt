@@ -35,26 +35,26 @@ impl Tone {
 fn next_value(coeff: f64, s_prev: f64, s_prev2: f64, sample: f32) -> f64
     ensures { result ≡ next_value coeff s_prev s_prev2 sample }
 {
-    std::num::f32_to_f64_with_nan(sample) + coeff * s_prev - s_prev2
+    ieee::to_f64(sample) + coeff * s_prev - s_prev2
 }
 
 // The two squares go into their sums unrounded.
 fn power_at(coeff: f64, s_prev: f64, s_prev2: f64) -> f64
     ensures { result ≡ power_at coeff s_prev s_prev2 }
 {
-    let inner: f64 = fma::mul_add(s_prev, s_prev, -coeff * s_prev * s_prev2);
+    let inner = fma::mul_add(s_prev, s_prev, -coeff * s_prev * s_prev2);
     fma::mul_add(s_prev2, s_prev2, inner)
 }
 
-// The power of a tone in the samples.
+// The power of a tone in the samples. A `for` with two variables, as the Rust has it: a fold over the pair of them is no plainer.
 pub fn goertzel_power(samples: &[f32], tone: Tone) -> f64
     ensures { result ≡ goertzel_power (coefficient_of tone) samples.now }
 {
     let coeff = tone.coefficient();
-    let mut s_prev: f64 = 0.0;
-    let mut s_prev2: f64 = 0.0;
+    let mut s_prev = 0.0;
+    let mut s_prev2 = 0.0;
     for sample in samples {
-        let s: f64 = next_value(coeff, s_prev, s_prev2, *sample);
+        let s = next_value(coeff, s_prev, s_prev2, *sample);
         s_prev2 = s_prev;
         s_prev = s;
     }
@@ -66,8 +66,8 @@ pub fn goertzel_power(samples: &[f32], tone: Tone) -> f64
 pub fn power(re: f32, im: f32) -> f64
     ensures { result ≡ power_of re im }
 {
-    let a: f64 = std::num::f32_to_f64_with_nan(re);
-    let b: f64 = std::num::f32_to_f64_with_nan(im);
+    let a = ieee::to_f64(re);
+    let b = ieee::to_f64(im);
     a * a + b * b
 }
 

@@ -15,13 +15,13 @@ fn power_is_right(case: &Case, samples: &[f32], tone: Tone) -> bool {
     dsp::goertzel_power(samples, tone).has_pattern(case.x)
 }
 
-// The pattern that number i of a window must have: each pair is a real part and 0, and both are 0 behind the last real part.
-fn wanted(reals: &[u32], i: usize) -> u32 {
-    if i % 2 == 0 {
-        reals.get(i / 2).copied().unwrap_or(0)
-    } else {
-        0
+// The patterns of a window's numbers: the real parts of its first pairs, and 0 everywhere else. A window has 512 numbers.
+fn window_of(reals: &[u32]) -> [u32; 512] {
+    let mut window = [0; 512];
+    for (place, real) in window.iter_mut().step_by(2).zip(reals) {
+        *place = *real;
     }
+    window
 }
 
 fn window_is_right(case: &Case, patterns: &[u32], numbers: &[f32]) -> bool {
@@ -36,15 +36,13 @@ fn window_is_right(case: &Case, patterns: &[u32], numbers: &[f32]) -> bool {
     probe::sync_window(sound, case.a, &mut buffer).is_ok()
         && buffer
             .iter()
-            .enumerate()
-            .all(|(i, x)| x.has_pattern(wanted(reals, i)))
+            .zip(window_of(reals))
+            .all(|(x, bits)| x.has_pattern(bits))
 }
 
 fn decision_is_right(case: &Case, spectrum: &[f32]) -> bool {
-    match probe::has_sync_at(spectrum, f64::from_pattern(case.a)) {
-        Ok(yes) => yes as u64 == case.x,
-        Err(_) => false,
-    }
+    probe::has_sync_at(spectrum, f64::from_pattern(case.a)).is_ok_and(|yes| u64::from(yes)
+        == case.x)
 }
 
 // Whether an operation gives the answer expected. An operation that there is not gives none.

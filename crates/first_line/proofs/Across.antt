@@ -1,11 +1,11 @@
 -- Laws of the columns of a wide pulse. Assumes nothing.
-use Rattle.std.proofs.Common.{◌≡◌, ℕ, zero, suc, ◌+◌, ◌*◌, ◌<◌, ◌≤◌, Bool, true, false, List, Some, refl, add-one, arith, le-leb}
-use borrow.Author.Tests.{lt-leb}
+use Rattle.std.proofs.Common.{◌≡◌, ℕ, zero, suc, ◌+◌, ◌*◌, ◌≤◌, Bool, true, cond, List, Option, Some, None, refl, ap, ◌∙◌, add-one, arith, le-leb}
+use Rattle.std.specs.List.{find, range_with_len}
+use Rattle.std.specs.Option.{option_map, unwrap_or}
 use lib.Ieee.{Float}
 use Rattle.window_fold.specs.Fold.{hit_at, hit_by, lines_at}
 use Rattle.first_line.specs.Pulsed.{hits_across, half_set, first_line, or_zero}
 use Rattle.window_fold.proofs.Folding.{hit_small}
-use Rattle.first_line.proofs.Lines.{first_none, first_at}
 
 module _ (samples : Float) (window : List ℕ) (y column : ℕ) where
   pub across_none : 0 ≡ hits_across samples window y column 0
@@ -27,13 +27,13 @@ module _ (samples : Float) (window : List ℕ) (column width : ℕ) where
   unfolding half_set
   half_set_lem y hits e h = rw (← e) (le-leb _ _ h)
 
-  pub half_clear : (y hits : ℕ) → hits ≡ hits_across samples window y column width → 2 * hits < width → half_set samples window column width y ≡ false
-  unfolding half_set
-  half_clear y hits e h = rw (← e) (lt-leb _ _ h)
+-- `find` over the lines from y on gives the first that passes
+pub found_is : (test : ℕ → Bool) (y n : ℕ) → find test (range_with_len y n) ≡ first_line test y n
+unfolding first_line
+found_is test y zero = refl
+found_is test y (suc n) =
+    ap (λ (r : Option ℕ). cond (test y) (Some y) r) (found_is test (y + 1) n ∙ ap (λ (k : ℕ). first_line test k n) (add-one y))
 
--- the lines before y fail the test, and y passes it; or all fail it
-pub zero_at : (test : ℕ → Bool) (lines y : ℕ) → y < lines → ((k : ℕ) → k < y → test k ≡ false) → test y ≡ true → Some y ≡ or_zero (first_line test 0 lines)
-zero_at test lines y h f t = rw (first_at test 0 lines y (omega arith) (omega arith) (λ k a b. f k b) t)
-
-pub zero_none : (test : ℕ → Bool) (lines y : ℕ) → lines ≤ y → ((k : ℕ) → k < y → test k ≡ false) → Some 0 ≡ or_zero (first_line test 0 lines)
-zero_none test lines y h f = rw (first_none test 0 lines (λ k a b. f k (omega arith)))
+pub or_line : (r found : Option ℕ) (line : ℕ) → option_map (λ x. x) r ≡ found → line ≡ unwrap_or r 0 → Some line ≡ or_zero found
+or_line None found line f l = rw (← f, l)
+or_line (Some y) found line f l = rw (← f, l)

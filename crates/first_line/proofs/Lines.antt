@@ -22,17 +22,6 @@ module _ (test : ℕ → Bool) where
       at (inl e) rest = rw (e, t)
       at (inr q) rest = rw (h y (omega arith) q) (rest q)
 
--- a test that fails before y and at y
-pub below_next : (test : ℕ → Bool) (y : ℕ) → ((k : ℕ) → k < y → test k ≡ false) → test y ≡ false → (k : ℕ) → k < y + 1 → test k ≡ false
-below_next test y h t k l = at (eq-or-lt_of_le (below l))
-  where
-    below : k < y + 1 → k ≤ y
-    below l = omega arith
-
-    at : (k ≡ y) ⊎ (k < y) → test k ≡ false
-    at (inl e) = rw e t
-    at (inr q) = h k q
-
 -- What a scan for a pair knows before it looks at `line`: no pair ends before it, and `clean` says whether there is a line before it that is pulsed.
 pub record Scanned (pulsed : ℕ → Bool) (clean : Bool) (line : ℕ) : Type 0 where
   pub none : (k : ℕ) → k + 1 < line → pulsed k && pulsed (k + 1) ≡ false

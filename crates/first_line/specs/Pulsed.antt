@@ -7,7 +7,7 @@ use Rattle.ieee.specs.Casts.{maximum}
 use Rattle.modespec.specs.declared.ModeSpec.{ModeSpec}
 use Rattle.modespec.specs.Sizes.{line_samples, window_lines, working_rate}
 use Rattle.window_fold.specs.Fold.{lines_at, hit_at}
-use Rattle.first_line.specs.declared.Span.{Span}
+use Rattle.std.specs.declared.ops.Range.{Range}
 
 -- ---- a narrow pulse
 
@@ -28,11 +28,11 @@ unfoldable pub pulse_at : Float → ℕ → ℕ → ℕ → Float
 pulse_at line a column y = add binary64 (of_nat a) (mul binary64 (lines_at y column) line)
 
 -- the flags looked at around a pulse, from four before it to four behind it. The lower end is held at 0, and both are cut.
-unfoldable pub span_of : Float → Float → Span
+unfoldable pub span_of : Float → Float → Range ℕ
 span_of pulse start =
     record {
-      lo = to_unsigned 64 (maximum (sub binary64 start (of_nat 4)) (fin false 0 (pos 0)));
-      hi = to_unsigned 64 (add binary64 (add binary64 start pulse) (of_nat 4));
+      start = to_unsigned 64 (maximum (sub binary64 start (of_nat 4)) (fin false 0 (pos 0)));
+      end = to_unsigned 64 (add binary64 (add binary64 start pulse) (of_nat 4));
     }
 
 -- the run of set flags that ends with the last of the n from lo on
@@ -53,7 +53,7 @@ run_needed pulse = minimum (mul binary64 (decimal 5 1) pulse) (of_nat 10)
 unfoldable pub pulsed_line : Float → Float → List ℕ → ℕ → ℕ → ℕ → Bool
 pulsed_line line pulse flags a column y =
     let span = span_of pulse (pulse_at line a column y) in
-    le (run_needed pulse) (of_nat (longest_to flags span.lo (span.hi - span.lo)))
+    le (run_needed pulse) (of_nat (longest_to flags span.start (span.end - span.start)))
 
 -- the first of the n lines from y on that passes a test
 unfoldable pub first_line : (ℕ → Bool) → ℕ → ℕ → Option ℕ

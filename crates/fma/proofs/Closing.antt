@@ -1,22 +1,17 @@
--- What the proofs of `close` and `far` cite. Assumes nothing.
+-- What the proofs of `WideTerm::plus`, `WideTerm::plus_far` and `Wide::sticky_high` cite. Assumes nothing.
 use mathlib.Core.Path.{◌≡◌, refl, sym, ap, ◌∙◌, subst}
 use mathlib.Core.Logic.{◌⊎◌, inl, inr}
 use mathlib.Core.Bool.{Bool, true, false, beq}
 use Prim.Native.Nat.{ℕ, ◌+◌, ◌-◌, ◌*◌, ◌%◌, ◌^◌, ◌≤◌, ◌<◌}
-use native.Mathlib.Nat.{add-zero, add_comm, add-mul, mul_assoc, mul-lt-mul_of_pos_right}
+use native.Mathlib.Nat.{zero-mul, add_comm, add-mul, mul_assoc, mul-lt-mul_of_pos_right}
 use native.Mathlib.Omega.{arith}
-use lib.IntN.{pos}
 use lib.Pow.{pow-add, pow_pos}
 use lib.Bits.{bit_or}
 use lib.Arith.{digits_div, digits_mod}
-use lib.Ieee.{Float, fin, binary64, round, sum, of_bits}
-use Rattle.ieee.proofs.Pack.{too_small}
+use lib.Ieee.{Float, binary64, round, sum}
 use Rattle.fma.specs.Near.{Near, exact, Placed, Settled, Summed, Jammed}
 use Rattle.fma.proofs.Cutting.{near_trans, near_cut, near_lt_back}
 use Rattle.fma.proofs.Sums.{sum_like, sum_less, sum_more, sum_none, sum_frac, like_signs, Fine, add_near, sub_near, near_scale}
-
-zero_round : round binary64 false 0 (2 ^ 2317) ≡ fin false 0 (pos 0)
-zero_round = too_small binary64 false 0 (2 ^ 2317) (pow_pos 2317) (pow_pos 2317)
 
 abbrev Given : ℕ → ℕ → ℕ → ℕ → Type 0
 Given S i Z P = (Z * 2 ^ i ≡ S) ⊎ ((P % 2 ≡ 0) × (2 ^ 62 + Z ≤ P))
@@ -69,31 +64,24 @@ settle_more s t P k Z W r d h w pl = record { is = λ S n g. go S (sub_near P Z 
     go S l = pl.value (P * 2 ^ (k + 64) - S) l.strong ∙ sym (sum_more binary64 s t (P * 2 ^ (k + 64)) S (2 ^ 2317) d (l.below (some P Z W w h)))
 
 -- they undo each other
-pub settle_none : (s t : Bool) (P k Z : ℕ) → beq s t ≡ false → P ≤ Z → Z ≤ P → Settled s P k t Z (of_bits binary64 0)
-settle_none s t P k Z d x y = record { is = λ S n g. go S g }
+pub settle_none : (s t : Bool) (P k Z : ℕ) (r : Float) → beq s t ≡ false → P ≡ Z → Placed false 0 k r → Settled s P k t Z r
+settle_none s t P k Z r d q pl = record { is = λ S n g. go S g }
   where
-    same : (P Z : ℕ) → P ≤ Z → Z ≤ P → P ≡ Z
-    same P Z x y = omega arith
-
-    none : (P Z : ℕ) → P ≤ Z → 2 ^ 62 + Z ≤ P → ⊥
+    none : (P Z : ℕ) → P ≡ Z → 2 ^ 62 + Z ≤ P → ⊥
     none P Z x y = omega arith
 
-    plus : of_bits binary64 0 ≡ fin false 0 (pos 0)
-    plus = unfold of_bits in refl
-
-    go : (S : ℕ) → Given S (k + 64) Z P → of_bits binary64 0 ≡ sum binary64 s (P * 2 ^ (k + 64)) t S (2 ^ 2317)
-    go S (inr g) = absurd (none P Z x g.1)
-    go S (inl e) = plus ∙ sym zero_round ∙ sym (sum_none binary64 s t (P * 2 ^ (k + 64)) S (2 ^ 2317) d (ap (λ (z : ℕ). z * 2 ^ (k + 64)) (same P Z x y) ∙ e))
+    go : (S : ℕ) → Given S (k + 64) Z P → r ≡ sum binary64 s (P * 2 ^ (k + 64)) t S (2 ^ 2317)
+    go S (inr g) = absurd (none P Z q g.1)
+    go S (inl e) =
+        let n : 0 * 2 ^ (k + 64) ≡ 0 = zero-mul (2 ^ (k + 64)) in
+        pl.value 0 (exact n, inl n) ∙ sym (sum_none binary64 s t (P * 2 ^ (k + 64)) S (2 ^ 2317) d (ap (λ (z : ℕ). z * 2 ^ (k + 64)) q ∙ e))
 
 -- ---- 2 ^ 64 taken out of a sum
 pub sum_64 : (s t : Bool) (A B a b : ℕ) → A ≡ a * 2 ^ 64 → B ≡ b * 2 ^ 64 → sum binary64 s A t B (2 ^ 2317) ≡ sum binary64 s a t b (2 ^ 2253)
 sum_64 s t A B a b x y =
     sum_frac binary64 s t A B (2 ^ 2317) a b (2 ^ 2253) (pow_pos 2317) (pow_pos 2253) (ap (λ (z : ℕ). z * 2 ^ 2253) x ∙ mul_assoc a (2 ^ 64) (2 ^ 2253)) (ap (λ (z : ℕ). z * 2 ^ 2253) y ∙ mul_assoc b (2 ^ 64) (2 ^ 2253))
 
--- ---- `far`: h stands for P / 2 ^ 64
-pub high_exact : (ph pl : ℕ) → pl ≡ 0 → Near (ph * 2 ^ 64 + pl) 64 ph
-high_exact ph pl e = exact (sym (add-zero (ph * 2 ^ 64)) ∙ ap (λ (z : ℕ). ph * 2 ^ 64 + z) (sym e))
-
+-- ---- `sticky_high`: h stands for P / 2 ^ 64
 pub high_odd : (ph pl : ℕ) → pl < 2 ^ 64 → (pl ≡ 0 → ⊥) → Near (ph * 2 ^ 64 + pl) 64 (bit_or ph 1)
 high_odd ph pl l e = subst (λ (z : ℕ). Near (ph * 2 ^ 64 + pl) 64 (bit_or z 1)) (digits_div ph l) (near_cut (ph * 2 ^ 64 + pl) 64 (subst (λ (z : ℕ). 0 < z) (sym (digits_mod ph l)) (go pl e)))
   where
@@ -117,15 +105,9 @@ module _ (P k q d h u m : ℕ) (n : Near P 64 h) (j : Jammed h (d - k - (64 + m)
   P_is : P * 2 ^ (k + 64) ≡ P * 2 ^ k * 2 ^ 64
   P_is = ap (λ (z : ℕ). P * z) (pow-add 2 k 64) ∙ sym (mul_assoc P (2 ^ k) (2 ^ 64))
 
--- ---- the bounds that `far` needs
+-- ---- `plus_far`: the bound on h
 pub high_lt : (ph pl h : ℕ) → ph < 2 ^ 43 → pl < 2 ^ 64 → Near (ph * 2 ^ 64 + pl) 64 h → h < 2 ^ 43
 high_lt ph pl h a b n = near_lt_back (ph * 2 ^ 64 + pl) 64 h 42 n (lib.Arith.digits_lt a b)
-
-pub far_add_fits : (q h u : ℕ) → q < 2 ^ 53 → h < 2 ^ 43 → u ≤ h + 1 → q * 2 ^ 10 % 2 ^ 64 + u < 2 ^ 64
-far_add_fits q h u a b c = omega arith
-
-pub far_sub_le : (q h u : ℕ) → 2 ^ 52 ≤ q → q < 2 ^ 53 → h < 2 ^ 43 → u ≤ h + 1 → u ≤ q * 2 ^ 11 % 2 ^ 64
-far_sub_le q h u a b c d = omega arith
 
 module _ (s t : Bool) (P k q d h u : ℕ) (r : Float) (qlo : 2 ^ 52 ≤ q) (qhi : q < 2 ^ 53) (hh : h < 2 ^ 43) (n : Near P 64 h) (gap : k + 74 < d) where
   pub far_like : beq s t ≡ true → Jammed h (d - k - 74) u → Placed t (0 * 2 ^ 64 + (q * 2 ^ 10 % 2 ^ 64 + u)) (d - 10) r → Summed s P k t q d r

@@ -1,4 +1,4 @@
--- What the proof of `combined` cites. Assumes nothing.
+-- What the proof of `unrounded` cites. Assumes nothing.
 use mathlib.Core.Path.{◌≡◌, refl, sym, ap, ◌∙◌, subst}
 use mathlib.Core.Logic.{◌⊎◌, inl, inr}
 use mathlib.Core.Bool.{Bool}
@@ -14,6 +14,34 @@ use Rattle.fma.proofs.Closing.{sum_64}
 
 mul_lt : (x y a b : ℕ) → x < a → y < b → x * y < a * b
 mul_lt x y a b h k = lt_of_le_of_lt (mul-le-mul_right y (le_of_lt h)) (mul-lt-mul_of_pos_left k (lt_of_le_of_lt zero-le h))
+
+-- the factors' digits, the first times 2
+pub factors : (q r : ℕ) → (0 < q → 2 ^ 52 ≤ q) → q < 2 ^ 53 → (0 < r → 2 ^ 52 ≤ r) → r < 2 ^ 53 → Factors (q * 2) r
+factors q r l h m k = record {
+  even = even q;
+  a_lo = λ p. twice q (l (first q p));
+  a_hi = top q h;
+  b_lo = m;
+  b_hi = k;
+}
+  where
+    even : (q : ℕ) → q * 2 % 2 ≡ 0
+    even q = omega arith
+
+    first : (q : ℕ) → 0 < q * 2 → 0 < q
+    first q h = omega arith
+
+    twice : (q : ℕ) → 2 ^ 52 ≤ q → 2 ^ 53 ≤ q * 2
+    twice q k = omega arith
+
+    top : (q : ℕ) → q < 2 ^ 53 → q * 2 < 2 ^ 54
+    top q h = omega arith
+
+pub product_is : (q r p : ℕ) → q < 2 ^ 53 → p ≡ q * 2 % 2 ^ 64 * r → p ≡ q * 2 * r
+product_is q r p h e = e ∙ ap (λ (z : ℕ). z * r) (small q h)
+  where
+    small : (q : ℕ) → q < 2 ^ 53 → q * 2 % 2 ^ 64 ≡ q * 2
+    small q x = omega arith
 
 module _ (a b hi lo : ℕ) (F : Factors a b) (e : hi * 2 ^ 64 + lo ≡ a * b) where
   pub hi_lt : hi < 2 ^ 43
@@ -74,12 +102,14 @@ module _ (a b hi lo : ℕ) (F : Factors a b) (e : hi * 2 ^ 64 + lo ≡ a * b) wh
       tidy q = omega arith
 
   -- the second value is
-  pub sum_first : (s : Bool) (k : ℕ) (t : Bool) (q d : ℕ) (r : Float) → q ≡ 0 → Settled s (hi * 2 ^ 64 + lo) k t (0 * 2 ^ 64 + 0) r → Summed s (a * b) k t q d r
-  sum_first s k t q d r z x = record {
-    is = x.is ((0 * 2 ^ 64 + 0) * 2 ^ (k + 64)) (exact refl) (inl refl)
-        ∙ sum_64 s t ((hi * 2 ^ 64 + lo) * 2 ^ (k + 64)) ((0 * 2 ^ 64 + 0) * 2 ^ (k + 64)) (a * b * 2 ^ k) (q * 2 ^ d) (P_is k)
-        (zero-mul (2 ^ (k + 64)) ∙ sym (zero-mul (2 ^ 64)) ∙ ap (λ (y : ℕ). y * 2 ^ 64) (sym (zero-mul (2 ^ d)) ∙ ap (λ (y : ℕ). y * 2 ^ d) (sym z)));
-  }
+  pub sum_first : (s : Bool) (k : ℕ) (t : Bool) (q d : ℕ) (r : Float) → q ≡ 0 → Settled s (hi * 2 ^ 64 + lo) k t (0 * 2 ^ 64 + q) r → Summed s (a * b) k t q d r
+  sum_first s k t q d r z x =
+      let none : (0 * 2 ^ 64 + q) * 2 ^ (k + 64) ≡ 0 = ap (λ (y : ℕ). (0 * 2 ^ 64 + y) * 2 ^ (k + 64)) z ∙ zero-mul (2 ^ (k + 64)) in
+      record {
+        is = x.is ((0 * 2 ^ 64 + q) * 2 ^ (k + 64)) (exact refl) (inl refl)
+            ∙ sum_64 s t ((hi * 2 ^ 64 + lo) * 2 ^ (k + 64)) ((0 * 2 ^ 64 + q) * 2 ^ (k + 64)) (a * b * 2 ^ k) (q * 2 ^ d) (P_is k)
+            (none ∙ sym (zero-mul (2 ^ 64)) ∙ ap (λ (y : ℕ). y * 2 ^ 64) (sym (zero-mul (2 ^ d)) ∙ ap (λ (y : ℕ). y * 2 ^ d) (sym z)));
+      }
 
   -- the second value is not below the first in scale
   pub sum_above : (s : Bool) (k : ℕ) (t : Bool) (q d zh zl : ℕ) (r : Float) → k ≤ d → zh * 2 ^ 64 + zl ≡ q * 2 ^ (d - k) → Settled s (hi * 2 ^ 64 + lo) k t (zh * 2 ^ 64 + zl) r → Summed s (a * b) k t q d r

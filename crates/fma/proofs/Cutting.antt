@@ -2,13 +2,15 @@
 use mathlib.Core.Path.{◌≡◌, refl, sym, ap, ◌∙◌, subst}
 use mathlib.Core.Logic.{◌⊎◌, inl, inr}
 use Prim.Native.Nat.{ℕ, zero, suc, ◌+◌, ◌-◌, ◌*◌, ◌/◌, ◌%◌, ◌^◌, ◌≤◌, ◌<◌}
-use native.Mathlib.Nat.{le_trans, le_of_eq, le_refl, le_of_lt, lt_of_lt_of_le, lt_of_le_of_lt, lt_irrefl, zero-lt-suc, zero-add, add-zero, add_assoc, add-mul, zero-mul, mul-one, one-mul, mul_comm, mul_assoc, mul_left_comm, mul_right_comm, mul-pos, suc-mul, mul-le-mul_left, mul-le-mul_right, mul-lt-mul_of_pos_right, pow-succ', div-add-mod', mod-lt, mod-eq_of_lt, div-mul-le_self, eq-zero-or-pos, div-div-eq-div-mul}
+use native.Mathlib.Nat.{le_trans, le_of_eq, le_refl, lt_of_lt_of_le, lt_of_le_of_lt, lt_irrefl, zero-lt-suc, zero-add, add-zero, add_assoc, add-mul, zero-mul, mul-one, mul_comm, mul_assoc, mul_left_comm, mul-pos, mul-le-mul_right, mul-lt-mul_of_pos_right, pow-succ', div-add-mod', mod-lt, mod-eq_of_lt, div-mul-le_self, eq-zero-or-pos}
 use native.Mathlib.Omega.{arith}
-use lib.Dec.{lit≤}
+use mathlib.Core.Bool.{not}
+use lib.Dec.{lit≤, eqb, eqb-suc-zero}
 use lib.Arith.{digits_div, digits_mod, digits_lt}
 use lib.Pow.{pow-add, pow_pos, pow_mono, shl_lt}
 use lib.Bits.{bit_and, bit_or, and_mask, or_add_and}
 use lib.Count.{count_leading_zeros, leading_top}
+use mir.Val.{bool_byte}
 use Rattle.fma.specs.Near.{Near, exact, inside, Jammed, Top}
 
 -- q made odd
@@ -97,12 +99,6 @@ odd_le q = go (bit_or q 1) q (odd_is q)
 plus_le : (a b : ℕ) → a ≤ b → a + 1 ≤ b + 1
 plus_le a b x = omega arith
 
-pub jam_none : (w n : ℕ) → w ≡ 0 → Jammed w n 0
-jam_none w n e = record { near = exact (zero-mul (2 ^ n) ∙ sym e); small = go w }
-  where
-    go : (w : ℕ) → 0 ≤ w + 1
-    go w = omega arith
-
 pub jam_all : (w n : ℕ) → w < 2 ^ 64 → (w ≡ 0 → ⊥) → 63 < n → Jammed w n 1
 jam_all w n l e h = record { near = near_all w n (go w e) (lt_of_lt_of_le l (pow_mono h)); small = one w }
   where
@@ -112,14 +108,15 @@ jam_all w n l e h = record { near = near_all w n (go w e) (lt_of_lt_of_le l (pow
     one : (w : ℕ) → 1 ≤ w + 1
     one w = omega arith
 
+pub jam_bit : (w n : ℕ) → w < 2 ^ 64 → 63 < n → Jammed w n (bool_byte (not (eqb w 0)))
+jam_bit zero n l h = record { near = exact (zero-mul (2 ^ n)); small = omega arith }
+jam_bit (suc w) n l h = rw (eqb-suc-zero w) (jam_all (suc w) n l (none w) h)
+  where
+    none : (w : ℕ) → suc w ≡ 0 → ⊥
+    none w e = omega (arith, e)
+
 back_is : (w n : ℕ) → w < 2 ^ 64 → w / 2 ^ n * 2 ^ n % 2 ^ 64 ≡ w / 2 ^ n * 2 ^ n
 back_is w n l = mod-eq_of_lt (lt_of_le_of_lt (div-mul-le_self w (2 ^ n)) l)
-
-pub jam_even : (w n : ℕ) → w < 2 ^ 64 → w / 2 ^ n * 2 ^ n % 2 ^ 64 ≡ w → Jammed w n (w / 2 ^ n)
-jam_even w n l e = record { near = exact (sym (back_is w n l) ∙ e); small = le_trans (native.Mathlib.Nat.div-le_self w (2 ^ n)) (go w) }
-  where
-    go : (w : ℕ) → w ≤ w + 1
-    go w = omega arith
 
 pub jam_odd : (w n : ℕ) → w < 2 ^ 64 → (w / 2 ^ n * 2 ^ n % 2 ^ 64 ≡ w → ⊥) → Jammed w n (bit_or (w / 2 ^ n) 1)
 jam_odd w n l e = record {
@@ -200,20 +197,9 @@ module _ (a b c : ℕ) (A : a < 2 ^ 64) (B : b < 2 ^ 64) (p : 0 < a) (zc : c ≡
   pub top_of : (r : ℕ) → Near (a * 2 ^ 64 + b) (65 - c) r → Top a b c r
   top_of r n = record { lo = near_ge_back (a * 2 ^ 64 + b) (65 - c) r 61 n w_lo; hi = near_lt_back (a * 2 ^ 64 + b) (65 - c) r 62 n w_hi; near = n }
 
-  pub top_exact : (r : ℕ) → c ≡ 0 → b ≡ 0 → Jammed a 1 r → Top a b c r
-  top_exact r e f h =
-      top_of r (subst (λ (k : ℕ). Near (a * 2 ^ 64 + b) (65 - k) r) (sym e)
-      (near_trans (a * 2 ^ 64 + b) 64 a 1 r (exact (sym (add-zero (a * 2 ^ 64)) ∙ ap (λ (k : ℕ). a * 2 ^ 64 + k) (sym f))) h.near))
-
-  pub top_odd : (r : ℕ) → c ≡ 0 → (b ≡ 0 → ⊥) → Jammed (bit_or a 1) 1 r → Top a b c r
-  top_odd r e f h =
-      top_of r (subst (λ (k : ℕ). Near (a * 2 ^ 64 + b) (65 - k) r) (sym e)
-      (near_trans (a * 2 ^ 64 + b) 64 (bit_or a 1) 1 r
-      (subst (λ (k : ℕ). Near (a * 2 ^ 64 + b) 64 (bit_or k 1)) (digits_div a B) (near_cut (a * 2 ^ 64 + b) 64 (subst (λ (k : ℕ). 0 < k) (sym (digits_mod a B)) (go b f))))
-      h.near))
-    where
-      go : (b : ℕ) → (b ≡ 0 → ⊥) → 0 < b
-      go b x = omega arith
+  -- c is 0: h stands for the upper limb
+  pub top_none : (h r : ℕ) → c ≡ 0 → Near (a * 2 ^ 64 + b) 64 h → Jammed h 1 r → Top a b c r
+  top_none h r e n j = top_of r (subst (λ (k : ℕ). Near (a * 2 ^ 64 + b) (65 - k) r) (sym e) (near_trans (a * 2 ^ 64 + b) 64 h 1 r n j.near))
 
   -- c is above 0: M is 2 ^ (65 - c), of which the limb's weight is a multiple
   module _ (k : 0 < c) where

@@ -1,22 +1,25 @@
--- What the proofs of `finite`, `fused` and `mul_add` cite. Assumes nothing.
+-- What the proofs of `Term::of_pattern` and `mul_add` cite. Assumes nothing.
 use mathlib.Core.Path.{◌≡◌, refl, sym, ap, ◌∙◌, subst}
 use mathlib.Core.Bool.{Bool, true, false, not, cond, false≢true}
-use Prim.Native.Nat.{ℕ, ◌+◌, ◌-◌, ◌*◌, ◌/◌, ◌%◌, ◌^◌, ◌≤◌, ◌<◌}
-use native.Mathlib.Nat.{mul_comm, mul_assoc, mul_left_comm, mul-pos, mod-lt}
+use Prim.Native.Nat.{ℕ, suc, ◌+◌, ◌-◌, ◌*◌, ◌/◌, ◌%◌, ◌^◌, ◌≤◌, ◌<◌}
+use native.Mathlib.Nat.{mul_comm, mul_assoc, mul_left_comm, mul_right_comm, mul-pos, mod-lt, pow-succ', eq_of_mul-eq-mul_right}
 use native.Mathlib.Omega.{arith}
-use lib.Dec.{T, leb, eqb, ltb, leb→le, nleb→lt}
+use lib.Dec.{T, leb, eqb, leb→le, nleb→lt}
 use lib.Pow.{pow-add, pow_pos, field, mod-pow-add}
 use lib.Bits.{bit_and, and_mask}
 use lib.Ieee.{Float, nan, inf, fin, Format, binary64, up, down, unlike, sum, add, mul, fits, is_nan, of_fields, of_bits, to_bits}
 use lib.Ieee.Fits.{down_pos}
 use lib.Ieee.Bits.{of_bits-to_bits}
 use lib.Ieee.Exact.{HasValue}
+use Rattle.std.specs.Float.{float_is_finite}
 use Rattle.fma.specs.Fma.{fma}
 use Rattle.ieee.specs.Patterns.{lead, expo}
 use Rattle.ieee.proofs.Pack.{of_bits_is, fields_val}
 use Rattle.ieee.proofs.View as View
-use Rattle.fma.specs.Near.{Digits, Summed, Finite, Special, nan_operand, inf_operand, Sorted, Factors}
+use Rattle.ieee.proofs.Order.{yes}
+use Rattle.fma.specs.Near.{Summed, Finite, Special, nan_operand, inf_operand}
 use Rattle.fma.proofs.Sums.{sum_frac}
+use Rattle.fma.proofs.Limbs.{Held}
 
 -- ---- the value of a pattern
 pub finite_value : (b : ℕ) → Finite b → HasValue (of_bits binary64 b) (leb (2 ^ 63) b) (lead binary64 (b / 2 ^ 52 % 2 ^ 11) (b % 2 ^ 52) * 2 ^ expo (b / 2 ^ 52 % 2 ^ 11)) (2 ^ 1074)
@@ -70,70 +73,88 @@ fma_at f (fin s' m e) (fin t' n d) (fin u' o g) s t u X Y Z K p a b c =
     (first (m * up e) (n * up d) (down e) (down d) (down g) X Y K a.1 b.1)
     (second (o * up g) (down e) (down d) (down g) Z K c.1)
 
--- ---- the digits' fraction
-third : (X Y qx qy p r H L C : ℕ) → qx * p ≡ X * H → qy * r ≡ Y * H → C ≡ 2 * (H * H) * L → X * Y * C ≡ qx * 2 * qy * (p * r) * L
-third X Y qx qy p r H L C a b c =
-    let x : qx * 2 * qy * (p * r) * L ≡ qx * p * (qy * r) * (2 * L) = simp (mul_assoc, mul_comm, mul_left_comm) in
-    let y : X * H * (Y * H) * (2 * L) ≡ X * Y * (2 * (H * H) * L) = simp (mul_assoc, mul_comm, mul_left_comm) in
-    sym (x ∙ ap (λ (z : ℕ). z * (qy * r) * (2 * L)) a ∙ ap (λ (z : ℕ). X * H * z * (2 * L)) b ∙ y ∙ ap (λ (z : ℕ). X * Y * z) (sym c))
+-- ---- a pattern's value as `Term::of_pattern` has it
+rescaled : (v : Float) (s : Bool) (a c a' c' : ℕ) → 0 < c → HasValue v s a c → a * c' ≡ a' * c → HasValue v s a' c'
+rescaled nan s a c a' c' C h e = absurd h
+rescaled (inf t) s a c a' c' C h e = absurd h
+rescaled (fin t m k) s a c a' c' C h e = (
+  h.0,
+  eq_of_mul-eq-mul_right c C (m * up k * c') (a' * down k)
+      (mul_right_comm (m * up k) c' c ∙ ap (λ (z : ℕ). z * c') h.1 ∙ mul_right_comm a (down k) c' ∙ ap (λ (z : ℕ). z * down k) e ∙ mul_right_comm a' c (down k)),
+)
 
-fourth : (Z qz p H J K L C : ℕ) → qz * p ≡ Z * H → C ≡ H * J * K → L ≡ K * K → Z * K * C ≡ qz * (p * J) * L
-fourth Z qz p H J K L C a c l =
-    let x : qz * (p * J) * (K * K) ≡ qz * p * (J * (K * K)) = simp (mul_assoc, mul_comm, mul_left_comm) in
-    let y : Z * H * (J * (K * K)) ≡ Z * K * (H * J * K) = simp (mul_assoc, mul_comm, mul_left_comm) in
-    sym (ap (λ (z : ℕ). qz * (p * J) * z) l ∙ x ∙ ap (λ (z : ℕ). z * (J * (K * K))) a ∙ y ∙ ap (λ (z : ℕ). Z * K * z) (sym c))
-
-pub fma_digits : (bx by bz : ℕ) (s : Bool) (qx kx qy ky qz kz : ℕ) (r : Float) → Finite bx → Finite by → Finite bz
-    → s ≡ unlike (eqb (bx / 2 ^ 63) 1) (eqb (by / 2 ^ 63) 1)
-    → Digits (bx / 2 ^ 52 % 2 ^ 11) (bx % 2 ^ 52) qx kx → Digits (by / 2 ^ 52 % 2 ^ 11) (by % 2 ^ 52) qy ky → Digits (bz / 2 ^ 52 % 2 ^ 11) (bz % 2 ^ 52) qz kz
-    → Summed s (qx * 2 % 2 ^ 64 * qy) (kx + ky) (eqb (bz / 2 ^ 63) 1) qz (kz + 1127) r
-    → r ≡ fma binary64 (of_bits binary64 bx) (of_bits binary64 by) (of_bits binary64 bz)
-fma_digits bx by bz s qx kx qy ky qz kz r ux uy uz sg dx dy dz h =
-    let X = lead binary64 (bx / 2 ^ 52 % 2 ^ 11) (bx % 2 ^ 52) * 2 ^ expo (bx / 2 ^ 52 % 2 ^ 11) in
-    let Y = lead binary64 (by / 2 ^ 52 % 2 ^ 11) (by % 2 ^ 52) * 2 ^ expo (by / 2 ^ 52 % 2 ^ 11) in
-    let Z = lead binary64 (bz / 2 ^ 52 % 2 ^ 11) (bz % 2 ^ 52) * 2 ^ expo (bz / 2 ^ 52 % 2 ^ 11) in
-    let K = 2 ^ 1074 in
-    let w = unlike (leb (2 ^ 63) bx) (leb (2 ^ 63) by) in
-    let P = qx * 2 % 2 ^ 64 * qy * 2 ^ (kx + ky) in
-    let Q = qz * 2 ^ (kz + 1127) in
-    let p_is : P ≡ qx * 2 * qy * (2 ^ kx * 2 ^ ky) = ap (λ (z : ℕ). z * qy * 2 ^ (kx + ky)) (small qx dx.hi) ∙ ap (λ (z : ℕ). qx * 2 * qy * z) (pow-add 2 kx ky) in
-    let q_is : Q ≡ qz * (2 ^ kz * 2 ^ 1127) = ap (λ (z : ℕ). qz * z) (pow-add 2 kz 1127) in
-    h.is
-    ∙ ap (λ (v : Bool). sum binary64 v P (eqb (bz / 2 ^ 63) 1) Q (2 ^ 2253)) (sg ∙ ap (λ (v : Bool). unlike v (eqb (by / 2 ^ 63) 1)) (sign_is bx ux.fits) ∙ ap (λ (v : Bool). unlike (leb (2 ^ 63) bx) v) (sign_is by uy.fits))
-    ∙ ap (λ (v : Bool). sum binary64 w P v Q (2 ^ 2253)) (sign_is bz uz.fits)
-    ∙ sym (sum_frac binary64 w (leb (2 ^ 63) bz) (X * Y) (Z * K) (K * K) P Q (2 ^ 2253) (mul-pos (pow_pos 1074) (pow_pos 1074)) (pow_pos 2253)
-    (third X Y qx qy (2 ^ kx) (2 ^ ky) (2 ^ 52) (K * K) (2 ^ 2253) dx.value dy.value refl ∙ ap (λ (z : ℕ). z * (K * K)) (sym p_is))
-    (fourth Z qz (2 ^ kz) (2 ^ 52) (2 ^ 1127) K (K * K) (2 ^ 2253) dz.value refl refl ∙ ap (λ (z : ℕ). z * (K * K)) (sym q_is)))
-    ∙ sym (fma_at binary64 (of_bits binary64 bx) (of_bits binary64 by) (of_bits binary64 bz) (leb (2 ^ 63) bx) (leb (2 ^ 63) by) (leb (2 ^ 63) bz) X Y Z K (pow_pos 1074) (finite_value bx ux) (finite_value by uy) (finite_value bz uz))
+pub term_value : (b q x : ℕ) → Finite b → Held (b / 2 ^ 52 % 2 ^ 11) (b % 2 ^ 52) q x → HasValue (of_bits binary64 b) (eqb (b / 2 ^ 63) 1) (q * 2 ^ x) (2 ^ 2253)
+term_value b q x u h =
+    let A = lead binary64 (b / 2 ^ 52 % 2 ^ 11) (b % 2 ^ 52) * 2 ^ expo (b / 2 ^ 52 % 2 ^ 11) in
+    let same : q * 2 ^ x ≡ A * 2 ^ 1179 =
+    ap (λ (z : ℕ). q * 2 ^ z) (sym (back x h.least)) ∙ ap (λ (z : ℕ). q * z) (pow-add 2 (x - 1127) 1127) ∙ sym (mul_assoc q (2 ^ (x - 1127)) (2 ^ 1127)) ∙ ap (λ (z : ℕ). z * 2 ^ 1127) h.value.value ∙ mul_assoc A (2 ^ 52) (2 ^ 1127) in
+    subst (λ (v : Bool). HasValue (of_bits binary64 b) v (q * 2 ^ x) (2 ^ 2253)) (sym (sign_is b u.fits))
+    (rescaled (of_bits binary64 b) (leb (2 ^ 63) b) A (2 ^ 1074) (q * 2 ^ x) (2 ^ 2253) (pow_pos 1074) (finite_value b u)
+    (sym (ap (λ (z : ℕ). z * 2 ^ 1074) same ∙ mul_assoc A (2 ^ 1179) (2 ^ 1074))))
   where
-    small : (q : ℕ) → q < 2 ^ 53 → q * 2 % 2 ^ 64 ≡ q * 2
-    small q x = omega arith
+    back : (x : ℕ) → 1127 ≤ x → x - 1127 + 1127 ≡ x
+    back x l = omega arith
 
--- ---- `finite`
-pub sorted_nan : (x : Float) → x ≡ nan → Sorted x false
-sorted_nan x p = record { finite = λ e. absurd (false≢true e); special = λ e. nan_operand p }
+-- ---- the sum of the terms is `fma` of the three values
+module _ (x y z : Float) (Fx : fits binary64 x ≡ true) (Fy : fits binary64 y ≡ true) (Fz : fits binary64 z ≡ true) (s t u : Bool) (q j r k o l : ℕ)
+    (X : HasValue (of_bits binary64 (to_bits binary64 x)) s (q * 2 ^ j) (2 ^ 2253)) (Y : HasValue (of_bits binary64 (to_bits binary64 y)) t (r * 2 ^ k) (2 ^ 2253))
+    (Z : HasValue (of_bits binary64 (to_bits binary64 z)) u (o * 2 ^ l) (2 ^ 2253)) (J : 1127 ≤ j) (K : 1127 ≤ k) where
+  back : (v : Float) (w : Bool) (n : ℕ) → fits binary64 v ≡ true → HasValue (of_bits binary64 (to_bits binary64 v)) w n (2 ^ 2253) → HasValue v w n (2 ^ 2253)
+  back v w n F h = subst (λ (a : Float). HasValue a w n (2 ^ 2253)) (of_bits-to_bits binary64 v (yes F)) h
 
-module _ (x : Float) (F : T (fits binary64 x)) (N : T (not (is_nan x))) where
-  m_is : bit_and (to_bits binary64 x) (2 ^ 63 - 1) ≡ View.E x F * 2 ^ 52 + View.t x F
-  m_is = and_mask (to_bits binary64 x) 63 ∙ mod-pow-add (to_bits binary64 x) 11 52
-
-  pub sorted_rest : Sorted x (ltb (bit_and (to_bits binary64 x) (2 ^ 63 - 1)) 0x7ff0_0000_0000_0000)
-  sorted_rest = record {
-    finite = λ q. (
-      N,
-      record {
-        fits = View.b_lt x F;
-        below = low (View.E x F) (View.t x F) (subst (λ (z : ℕ). z < 0x7ff0_0000_0000_0000) m_is (borrow.Author.Tests.ltb-true (bit_and (to_bits binary64 x) (2 ^ 63 - 1)) 0x7ff0_0000_0000_0000 q));
-      },
-    );
-    special = λ q. inf_operand (View.sign x F) (View.infinite x F N (top (View.E x F) (View.t x F) (mod-lt (to_bits binary64 x / 2 ^ 52) (pow_pos 11)) (mod-lt (to_bits binary64 x) (pow_pos 52)) (subst (λ (z : ℕ). 0x7ff0_0000_0000_0000 ≤ z) m_is (borrow.Author.Tests.ltb-false (bit_and (to_bits binary64 x) (2 ^ 63 - 1)) 0x7ff0_0000_0000_0000 q))));
-  }
+  -- the product's fraction, with one factor 2 ^ 2253 of its denominator in its digits
+  product : q * 2 * r * 2 ^ (j + k - 2254) * 2 ^ 2253 ≡ q * 2 ^ j * (r * 2 ^ k)
+  product =
+      let a : q * 2 * r * 2 ^ (j + k - 2254) * 2 ^ 2253 ≡ q * r * (2 * (2 ^ (j + k - 2254) * 2 ^ 2253)) = simp (mul_assoc, mul_comm, mul_left_comm) in
+      let b : q * 2 ^ j * (r * 2 ^ k) ≡ q * r * (2 ^ j * 2 ^ k) = simp (mul_assoc, mul_comm, mul_left_comm) in
+      a
+      ∙ ap (λ (n : ℕ). q * r * (2 * n)) (sym (pow-add 2 (j + k - 2254) 2253))
+      ∙ ap (λ (n : ℕ). q * r * n) (sym (pow-succ' 2 (j + k - 2254 + 2253)) ∙ ap (λ (n : ℕ). 2 ^ n) (places j k J K) ∙ pow-add 2 j k)
+      ∙ sym b
     where
-      low : (E t : ℕ) → E * 2 ^ 52 + t < 0x7ff0_0000_0000_0000 → E < 2047
-      low E t h = omega arith
+      places : (j k : ℕ) → 1127 ≤ j → 1127 ≤ k → suc (j + k - 2254 + 2253) ≡ j + k
+      places j k a b = omega arith
 
-      top : (E t : ℕ) → E < 2 ^ 11 → t < 2 ^ 52 → 0x7ff0_0000_0000_0000 ≤ E * 2 ^ 52 + t → E ≡ 2047
-      top E t a b h = omega arith
+  pub fma_terms : (v : Float) → Summed (unlike s t) (q * 2 * r) (j + k - 2254) u o l v → v ≡ fma binary64 x y z
+  fma_terms v h =
+      let D = 2 ^ 2253 in
+      let P = q * 2 * r * 2 ^ (j + k - 2254) in
+      let O = o * 2 ^ l in
+      h.is
+      ∙ sum_frac binary64 (unlike s t) u P O D (q * 2 ^ j * (r * 2 ^ k)) (O * D) (D * D) (pow_pos 2253) (mul-pos (pow_pos 2253) (pow_pos 2253))
+      (sym (mul_assoc P D D) ∙ ap (λ (n : ℕ). n * D) product) (sym (mul_assoc O D D))
+      ∙ sym (fma_at binary64 x y z s t u (q * 2 ^ j) (r * 2 ^ k) O D (pow_pos 2253) (back x s (q * 2 ^ j) Fx X) (back y t (r * 2 ^ k) Fy Y) (back z u O Fz Z))
+
+-- ---- a value's pattern where std calls it finite, and what it is where not
+m_is : (x : Float) (F : T (fits binary64 x)) → bit_and (to_bits binary64 x) (2 ^ 63 - 1) ≡ View.E x F * 2 ^ 52 + View.t x F
+m_is x F = and_mask (to_bits binary64 x) 63 ∙ mod-pow-add (to_bits binary64 x) 11 52
+
+number : (x : Float) → float_is_finite x ≡ true → T (not (is_nan x))
+unfolding float_is_finite is_nan
+number nan h = absurd (false≢true h)
+number (inf s) h = tt
+number (fin s m e) h = tt
+
+no_inf : (s : Bool) → float_is_finite (inf s) ≡ true → ⊥
+unfolding float_is_finite
+no_inf s h = false≢true h
+
+pub finite_pattern : (x : Float) → fits binary64 x ≡ true → float_is_finite x ≡ true → Finite (to_bits binary64 x)
+finite_pattern x F h =
+    let t : T (fits binary64 x) = yes F in
+    record {
+      fits = View.b_lt x t;
+      below = less (View.E x t) (mod-lt (to_bits binary64 x / 2 ^ 52) (pow_pos 11)) (λ (e : View.E x t ≡ 2047). no_inf (View.sign x t) (ap float_is_finite (sym (View.infinite x t (number x h) e)) ∙ h));
+    }
+  where
+    less : (E : ℕ) → E < 2 ^ 11 → (E ≡ 2047 → ⊥) → E < 2047
+    less E a n = omega arith
+
+special : (x : Float) → float_is_finite x ≡ false → Special x
+unfolding float_is_finite
+special nan h = nan_operand refl
+special (inf s) h = inf_operand s refl
+special (fin s m e) h = absurd (false≢true (sym h))
 
 -- ---- a factor that is special
 pick : (b : Bool) (w : Bool) (z : Float) → add binary64 (cond b nan (inf w)) z ≡ cond b nan (add binary64 (inf w) z)
@@ -151,9 +172,12 @@ by_inf s nan z = refl
 by_inf s (inf t) z = refl
 by_inf s (fin t n d) z = pick (eqb n 0) (unlike s t) z
 
-pub special_left : (x y z : Float) → Special x → add binary64 (mul binary64 x y) z ≡ fma binary64 x y z
-special_left x y z (nan_operand p) = subst (λ (v : Float). add binary64 (mul binary64 v y) z ≡ fma binary64 v y z) (sym p) (by_nan y z)
-special_left x y z (inf_operand s p) = subst (λ (v : Float). add binary64 (mul binary64 v y) z ≡ fma binary64 v y z) (sym p) (by_inf s y z)
+by_special : (x y z : Float) → Special x → add binary64 (mul binary64 x y) z ≡ fma binary64 x y z
+by_special x y z (nan_operand p) = subst (λ (v : Float). add binary64 (mul binary64 v y) z ≡ fma binary64 v y z) (sym p) (by_nan y z)
+by_special x y z (inf_operand s p) = subst (λ (v : Float). add binary64 (mul binary64 v y) z ≡ fma binary64 v y z) (sym p) (by_inf s y z)
+
+pub special_left : (x y z : Float) → float_is_finite x ≡ false → add binary64 (mul binary64 x y) z ≡ fma binary64 x y z
+special_left x y z h = by_special x y z (special x h)
 
 on_nan : (x z : Float) → add binary64 (mul binary64 x nan) z ≡ fma binary64 x nan z
 unfolding add mul fma
@@ -167,65 +191,33 @@ on_inf nan t z = refl
 on_inf (inf s) t z = refl
 on_inf (fin s m e) t z = pick (eqb m 0) (unlike s t) z
 
-pub special_right : (x y z : Float) → Special y → add binary64 (mul binary64 x y) z ≡ fma binary64 x y z
-special_right x y z (nan_operand p) = subst (λ (v : Float). add binary64 (mul binary64 x v) z ≡ fma binary64 x v z) (sym p) (on_nan x z)
-special_right x y z (inf_operand s p) = subst (λ (v : Float). add binary64 (mul binary64 x v) z ≡ fma binary64 x v z) (sym p) (on_inf x s z)
+on_special : (x y z : Float) → Special y → add binary64 (mul binary64 x y) z ≡ fma binary64 x y z
+on_special x y z (nan_operand p) = subst (λ (v : Float). add binary64 (mul binary64 x v) z ≡ fma binary64 x v z) (sym p) (on_nan x z)
+on_special x y z (inf_operand s p) = subst (λ (v : Float). add binary64 (mul binary64 x v) z ≡ fma binary64 x v z) (sym p) (on_inf x s z)
 
--- ---- a z that is special, where x and y are not
-plus_nan : (x y : Float) (s t : Bool) (X Y K : ℕ) → HasValue x s X K → HasValue y t Y K → nan ≡ fma binary64 x y nan
-unfolding fma
-plus_nan nan y s t X Y K a b = absurd a
-plus_nan (inf s') y s t X Y K a b = absurd a
-plus_nan (fin s' m e) nan s t X Y K a b = absurd b
-plus_nan (fin s' m e) (inf t') s t X Y K a b = absurd b
-plus_nan (fin s' m e) (fin t' n d) s t X Y K a b = refl
+pub special_right : (x y z : Float) → float_is_finite y ≡ false → add binary64 (mul binary64 x y) z ≡ fma binary64 x y z
+special_right x y z h = on_special x y z (special y h)
 
-plus_inf : (x y : Float) (s t : Bool) (X Y K : ℕ) → HasValue x s X K → HasValue y t Y K → (u : Bool) → inf u ≡ fma binary64 x y (inf u)
-unfolding fma
-plus_inf nan y s t X Y K a b u = absurd a
-plus_inf (inf s') y s t X Y K a b u = absurd a
-plus_inf (fin s' m e) nan s t X Y K a b u = absurd b
-plus_inf (fin s' m e) (inf t') s t X Y K a b u = absurd b
-plus_inf (fin s' m e) (fin t' n d) s t X Y K a b u = refl
+-- ---- a z that is special, where x and y are finite
+plus_nan : (x y : Float) → float_is_finite x ≡ true → float_is_finite y ≡ true → nan ≡ fma binary64 x y nan
+unfolding float_is_finite fma
+plus_nan nan y a b = absurd (false≢true a)
+plus_nan (inf s) y a b = absurd (false≢true a)
+plus_nan (fin s m e) nan a b = absurd (false≢true b)
+plus_nan (fin s m e) (inf t) a b = absurd (false≢true b)
+plus_nan (fin s m e) (fin t n d) a b = refl
 
-module _ (x y z : Float) (Fx : T (fits binary64 x)) (Fy : T (fits binary64 y)) (ux : Finite (to_bits binary64 x)) (uy : Finite (to_bits binary64 y)) where
-  pub special_added : Special z → z ≡ fma binary64 x y z
-  special_added (nan_operand p) = subst (λ (v : Float). v ≡ fma binary64 x y v) (sym p) (plus_nan x y _ _ _ _ (2 ^ 1074) (View.value x Fx ux.below) (View.value y Fy uy.below))
-  special_added (inf_operand s p) = subst (λ (v : Float). v ≡ fma binary64 x y v) (sym p) (plus_inf x y _ _ _ _ (2 ^ 1074) (View.value x Fx ux.below) (View.value y Fy uy.below) s)
+plus_inf : (x y : Float) → float_is_finite x ≡ true → float_is_finite y ≡ true → (u : Bool) → inf u ≡ fma binary64 x y (inf u)
+unfolding float_is_finite fma
+plus_inf nan y a b u = absurd (false≢true a)
+plus_inf (inf s) y a b u = absurd (false≢true a)
+plus_inf (fin s m e) nan a b u = absurd (false≢true b)
+plus_inf (fin s m e) (inf t) a b u = absurd (false≢true b)
+plus_inf (fin s m e) (fin t n d) a b u = refl
 
--- the three patterns' values are the three floats
-pub all_back : (x y z r : Float) → T (fits binary64 x) → T (fits binary64 y) → T (fits binary64 z) → r ≡ fma binary64 (of_bits binary64 (to_bits binary64 x)) (of_bits binary64 (to_bits binary64 y)) (of_bits binary64 (to_bits binary64 z)) → r ≡ fma binary64 x y z
-all_back x y z r a b c h =
-    h
-    ∙ ap (λ (v : Float). fma binary64 v (of_bits binary64 (to_bits binary64 y)) (of_bits binary64 (to_bits binary64 z))) (of_bits-to_bits binary64 x a)
-    ∙ ap (λ (v : Float). fma binary64 x v (of_bits binary64 (to_bits binary64 z))) (of_bits-to_bits binary64 y b)
-    ∙ ap (λ (v : Float). fma binary64 x y v) (of_bits-to_bits binary64 z c)
+plus_special : (x y z : Float) → float_is_finite x ≡ true → float_is_finite y ≡ true → Special z → z ≡ fma binary64 x y z
+plus_special x y z a b (nan_operand p) = subst (λ (v : Float). v ≡ fma binary64 x y v) (sym p) (plus_nan x y a b)
+plus_special x y z a b (inf_operand s p) = subst (λ (v : Float). v ≡ fma binary64 x y v) (sym p) (plus_inf x y a b s)
 
--- ---- what `fused` asks of each pattern, with its masks
-pub asked : (b : ℕ) → Finite b → (bit_and (b / 2 ^ 52) (2 ^ 11 - 1) < 2047) × (bit_and b (2 ^ 52 - 1) < 2 ^ 52)
-asked b u = (subst (λ (z : ℕ). z < 2047) (sym (and_mask (b / 2 ^ 52) 11)) u.below, lib.Bits.mask_lt b 52)
-
--- and of the two factors
-pub factors : (e t q k e' t' q' k' : ℕ) → Digits e t q k → Digits e' t' q' k' → Factors (q * 2 % 2 ^ 64) q'
-factors e t q k e' t' q' k' x y = record {
-  even = even q x.hi;
-  a_lo = λ p. twice q x.hi (x.lo (first q p));
-  a_hi = top q x.hi;
-  b_lo = y.lo;
-  b_hi = y.hi;
-}
-  where
-    even : (q : ℕ) → q < 2 ^ 53 → q * 2 % 2 ^ 64 % 2 ≡ 0
-    even q h = omega arith
-
-    first : (q : ℕ) → 0 < q * 2 % 2 ^ 64 → 0 < q
-    first q h = omega arith
-
-    twice : (q : ℕ) → q < 2 ^ 53 → 2 ^ 52 ≤ q → 2 ^ 53 ≤ q * 2 % 2 ^ 64
-    twice q h k = omega arith
-
-    top : (q : ℕ) → q < 2 ^ 53 → q * 2 % 2 ^ 64 < 2 ^ 54
-    top q h = omega arith
-
-pub masked : (b q k : ℕ) → Digits (bit_and (b / 2 ^ 52) (2 ^ 11 - 1)) (bit_and b (2 ^ 52 - 1)) q k → Digits (b / 2 ^ 52 % 2 ^ 11) (b % 2 ^ 52) q k
-masked b q k h = rw (← (and_mask (b / 2 ^ 52) 11), ← (and_mask b 52)) h
+pub special_added : (x y z : Float) → float_is_finite x ≡ true → float_is_finite y ≡ true → float_is_finite z ≡ false → z ≡ fma binary64 x y z
+special_added x y z a b h = plus_special x y z a b (special z h)

@@ -1,50 +1,17 @@
 -- Numbers of two limbs of 64 bits. Assumes nothing.
 use mathlib.Core.Path.{◌≡◌, refl, sym, ap, ◌∙◌, subst}
-use mathlib.Core.Bool.{Bool, true, false}
 use Prim.Native.Nat.{ℕ, zero, suc, ◌+◌, ◌-◌, ◌*◌, ◌/◌, ◌%◌, ◌^◌, ◌≤◌, ◌<◌}
-use native.Mathlib.Nat.{le_trans, le_of_eq, le_of_lt, lt_of_lt_of_le, lt_of_le_of_lt, lt_irrefl, zero-add, add-zero, add_assoc, add_comm, add_left_comm, add-mul, mul-add, mul-one, mul_comm, mul_assoc, mul_left_comm, mul-le-mul_right, mul-lt-mul_of_pos_left, div-add-mod'}
+use native.Mathlib.Nat.{le_trans, le_of_eq, lt_of_lt_of_le, lt_of_le_of_lt, lt_irrefl, add-zero, add_comm, mul-one, mul_assoc, mul-le-mul_right, div-add-mod'}
 use native.Mathlib.Omega.{arith}
-use lib.Dec.{ltb, lit≤, lit<}
+use lib.Dec.{lit≤, lit<}
 use lib.Pow.{pow-add, pow_mono, shl_lt, shl_exact, shl-shr, shr-shr}
-use lib.Bits.{bit_and, and_mask}
+use lib.Bits.{bit_and, and_mask, mask_lt}
 use lib.Count.{count_leading_zeros, leading_top}
-use borrow.Author.Tests.{lt-ltb, le-ltb}
-use Rattle.fma.specs.Near.{Digits}
-
--- ---- a product of two numbers of two digits to the base 2 ^ 32
-mul_lt : (x y a b : ℕ) → x < a → y < b → x * y < a * b
-mul_lt x y a b h k = lt_of_le_of_lt (mul-le-mul_right y (le_of_lt h)) (mul-lt-mul_of_pos_left k (lt_of_le_of_lt Prim.Native.Nat.zero-le h))
-
-expand : (x1 x0 y1 y0 K : ℕ) → (x1 * K + x0) * (y1 * K + y0) ≡ x1 * y1 * (K * K) + (x1 * y0 + x0 * y1) * K + x0 * y0
-expand x1 x0 y1 y0 K = simp (add-mul, mul-add, mul_assoc, mul_comm, mul_left_comm, add_assoc, add_comm, add_left_comm)
-
-module _ (x1 x0 y1 y0 : ℕ) (a : x1 < 2 ^ 22) (b : x0 < 2 ^ 32) (c : y1 < 2 ^ 21) (d : y0 < 2 ^ 32) where
-  pub low_lt : x0 * y0 < 2 ^ 64
-  low_lt = mul_lt x0 y0 (2 ^ 32) (2 ^ 32) b d
-
-  pub mid1_lt : x1 * y0 < 2 ^ 54
-  mid1_lt = mul_lt x1 y0 (2 ^ 22) (2 ^ 32) a d
-
-  pub mid2_lt : x0 * y1 < 2 ^ 53
-  mid2_lt = mul_lt x0 y1 (2 ^ 32) (2 ^ 21) b c
-
-  pub high_lt : x1 * y1 < 2 ^ 43
-  high_lt = mul_lt x1 y1 (2 ^ 22) (2 ^ 21) a c
-
-  pub product_is : (x1 * y1 + (x1 * y0 + x0 * y1 + x0 * y0 / 2 ^ 32) / 2 ^ 32) * 2 ^ 64 + (bit_and (x1 * y0 + x0 * y1 + x0 * y0 / 2 ^ 32) (2 ^ 32 - 1) * 2 ^ 32 % 2 ^ 64 + bit_and (x0 * y0) (2 ^ 32 - 1)) ≡ (x1 * 2 ^ 32 + x0) * (y1 * 2 ^ 32 + y0)
-  product_is =
-      go (x1 * y1) (x1 * y0) (x0 * y1) (x0 * y0) (bit_and (x1 * y0 + x0 * y1 + x0 * y0 / 2 ^ 32) (2 ^ 32 - 1)) (bit_and (x0 * y0) (2 ^ 32 - 1)) (and_mask (x1 * y0 + x0 * y1 + x0 * y0 / 2 ^ 32) 32) (and_mask (x0 * y0) 32)
-      ∙ sym (expand x1 x0 y1 y0 (2 ^ 32))
-    where
-      go : (A B C D m p : ℕ) → m ≡ (B + C + D / 2 ^ 32) % 2 ^ 32 → p ≡ D % 2 ^ 32 → (A + (B + C + D / 2 ^ 32) / 2 ^ 32) * 2 ^ 64 + (m * 2 ^ 32 % 2 ^ 64 + p) ≡ A * (2 ^ 32 * 2 ^ 32) + (B + C) * 2 ^ 32 + D
-      go A B C D m p x y = omega arith
-
-pub split_mul : (x y : ℕ) → (x / 2 ^ 32 * 2 ^ 32 + bit_and x (2 ^ 32 - 1)) * (y / 2 ^ 32 * 2 ^ 32 + bit_and y (2 ^ 32 - 1)) ≡ x * y
-split_mul x y =
-    ap (λ (z : ℕ). (x / 2 ^ 32 * 2 ^ 32 + z) * (y / 2 ^ 32 * 2 ^ 32 + bit_and y (2 ^ 32 - 1))) (and_mask x 32)
-    ∙ ap (λ (z : ℕ). (x / 2 ^ 32 * 2 ^ 32 + x % 2 ^ 32) * (y / 2 ^ 32 * 2 ^ 32 + z)) (and_mask y 32)
-    ∙ ap (λ (z : ℕ). z * (y / 2 ^ 32 * 2 ^ 32 + y % 2 ^ 32)) (div-add-mod' x (2 ^ 32))
-    ∙ ap (λ (z : ℕ). x * z) (div-add-mod' y (2 ^ 32))
+use Rattle.std.specs.Ordering.{nat_cmp, ordering_then, MatchOrdering}
+use Rattle.std.specs.Cmp.{ranks, nat_cmp_is}
+use Rattle.std.specs.declared.cmp.Ordering.{Ordering}
+use Rattle.std.specs.declared.cmp.Ordering.TheVariants.{Less, Equal, Greater}
+use Rattle.fma.specs.Near.{Digits, Finite}
 
 -- ---- a shift to the left
 pub shl_high : (q d : ℕ) → q < 2 ^ 53 → d ≤ 74 → 63 < d → q * 2 ^ (d - 64) % 2 ^ 64 * 2 ^ 64 + 0 ≡ q * 2 ^ d
@@ -68,58 +35,36 @@ shl_mid q d k =
     join : (d : ℕ) → d ≤ 63 → d + (64 - d) ≡ 64
     join d x = omega arith
 
-pub shl_none : (q d : ℕ) → d ≤ 0 → 0 + q ≡ q * 2 ^ d
-shl_none q zero h = zero-add q ∙ sym (mul-one q)
-shl_none q (suc d) h = absurd (go d h)
+-- ---- the order: the upper limbs', then the lower
+pub limbs_cmp : (ah al bh bl : ℕ) → al < 2 ^ 64 → bl < 2 ^ 64 → ordering_then (nat_cmp ah bh) (nat_cmp al bl) ≡ nat_cmp (ah * 2 ^ 64 + al) (bh * 2 ^ 64 + bl)
+limbs_cmp ah al bh bl A B = nat_cmp_is (ah * 2 ^ 64 + al) (bh * 2 ^ 64 + bl) _ (go (nat_cmp ah bh) (nat_cmp al bl) (ranks ah bh) (ranks al bl))
   where
-    go : (d : ℕ) → suc d ≤ 0 → ⊥
-    go d x = omega arith
+    go : (o q : Ordering) → MatchOrdering o (ah < bh) (ah ≡ bh) (bh < ah) → MatchOrdering q (al < bl) (al ≡ bl) (bl < al)
+        → MatchOrdering (ordering_then o q) (ah * 2 ^ 64 + al < bh * 2 ^ 64 + bl) (ah * 2 ^ 64 + al ≡ bh * 2 ^ 64 + bl) (bh * 2 ^ 64 + bl < ah * 2 ^ 64 + al)
+    go Less q h k = omega arith
+    go Greater q h k = omega arith
+    go Equal Less h k = omega arith
+    go Equal Equal h k = omega arith
+    go Equal Greater h k = omega arith
 
--- ---- a difference
-module _ (ah al bh bl : ℕ) (A : al < 2 ^ 64) (B : bl < 2 ^ 64) (h : bh * 2 ^ 64 + bl ≤ ah * 2 ^ 64 + al) where
-  pub sub_plain : bl ≤ al → bh ≤ ah
-  sub_plain k = omega arith
+-- ---- `Term::of_pattern`: the fields of a finite value's pattern, with their masks
+pub asked : (b : ℕ) → Finite b → (bit_and (b / 2 ^ 52) (2 ^ 11 - 1) < 2047) × (bit_and b (2 ^ 52 - 1) < 2 ^ 52)
+asked b u = (subst (λ (z : ℕ). z < 2047) (sym (and_mask (b / 2 ^ 52) 11)) u.below, mask_lt b 52)
 
-  pub sub_borrow : al < bl → 1 ≤ ah - bh
-  sub_borrow k = omega arith
+-- the digits q and the exponent x of a term
+pub record Held (e t q x : ℕ) : Type 0 where
+  pub value : Digits e t q (x - 1127)
+  pub least : 1127 ≤ x
 
-  pub sub_borrow_le : al < bl → bh ≤ ah
-  sub_borrow_le k = omega arith
+pub masked : (b q x : ℕ) → Held (bit_and (b / 2 ^ 52) (2 ^ 11 - 1)) (bit_and b (2 ^ 52 - 1)) q x → Held (b / 2 ^ 52 % 2 ^ 11) (b % 2 ^ 52) q x
+masked b q x h = rw (← (and_mask (b / 2 ^ 52) 11), ← (and_mask b 52)) h
 
-  pub sub_is : bl ≤ al → (ah - bh) * 2 ^ 64 + (al - bl) + (bh * 2 ^ 64 + bl) ≡ ah * 2 ^ 64 + al
-  sub_is k = omega arith
+pub held_most : (e t q x : ℕ) → Held e t q x → x ≤ 3224
+held_most e t q x h = go x h.value.most h.least
+  where
+    go : (x : ℕ) → x - 1127 ≤ 2097 → 1127 ≤ x → x ≤ 3224
+    go x a b = omega arith
 
-  pub sub_is_borrow : al < bl → (ah - bh - 1) * 2 ^ 64 + (al + (2 ^ 64 - 1 - bl) + 1) + (bh * 2 ^ 64 + bl) ≡ ah * 2 ^ 64 + al
-  sub_is_borrow k = omega arith
-
--- ---- the order
-module _ (ah al bh bl : ℕ) (A : al < 2 ^ 64) (B : bl < 2 ^ 64) where
-  pub less_yes : ah < bh → true ≡ ltb (ah * 2 ^ 64 + al) (bh * 2 ^ 64 + bl)
-  less_yes k = sym (lt-ltb (ah * 2 ^ 64 + al) (bh * 2 ^ 64 + bl) go)
-    where
-      go : ah * 2 ^ 64 + al < bh * 2 ^ 64 + bl
-      go = omega arith
-
-  pub less_no : bh < ah → false ≡ ltb (ah * 2 ^ 64 + al) (bh * 2 ^ 64 + bl)
-  less_no k = sym (le-ltb (ah * 2 ^ 64 + al) (bh * 2 ^ 64 + bl) go)
-    where
-      go : bh * 2 ^ 64 + bl ≤ ah * 2 ^ 64 + al
-      go = omega arith
-
-  pub less_low : bh ≤ ah → ah ≤ bh → ltb al bl ≡ ltb (ah * 2 ^ 64 + al) (bh * 2 ^ 64 + bl)
-  less_low x y = go (ltb al bl) (borrow.Author.Tests.ltb-true al bl) (borrow.Author.Tests.ltb-false al bl)
-    where
-      yes : al < bl → ah * 2 ^ 64 + al < bh * 2 ^ 64 + bl
-      yes k = omega arith
-
-      no : bl ≤ al → bh * 2 ^ 64 + bl ≤ ah * 2 ^ 64 + al
-      no k = omega arith
-
-      go : (t : Bool) → (t ≡ true → al < bl) → (t ≡ false → bl ≤ al) → t ≡ ltb (ah * 2 ^ 64 + al) (bh * 2 ^ 64 + bl)
-      go true p q = sym (lt-ltb (ah * 2 ^ 64 + al) (bh * 2 ^ 64 + bl) (yes (p refl)))
-      go false p q = sym (le-ltb (ah * 2 ^ 64 + al) (bh * 2 ^ 64 + bl) (no (q refl)))
-
--- ---- `digits_of`
 no_zero : {n : ℕ} → n < 0 → ⊥
 no_zero h = omega arith
 
@@ -157,20 +102,11 @@ module _ (t : ℕ) (b : t < 2 ^ 52) (p : 0 < t) where
       pow_lt_back : (i p : ℕ) → 2 ^ i < 2 ^ p → i < p
       pow_lt_back i p h = native.Mathlib.Nat.lt_of_not-le (λ (g : p ≤ i). lt_irrefl (2 ^ i) (lt_of_lt_of_le h (pow_mono g)))
 
-  pub zeros_fit : count_leading_zeros 64 t < 2 ^ 64
-  zeros_fit = lt_of_le_of_lt (lib.Count.leading_le 64 t) (lit< tt)
-
   pub zeros_ge : 11 ≤ count_leading_zeros 64 t
   zeros_ge = go (count_leading_zeros 64 t) z.0 z.1 j_lt
     where
       go : (l j : ℕ) → l + suc j ≡ 64 → j < 52 → 11 ≤ l
       go l j x y = omega arith
-
-  pub zeros_lt : count_leading_zeros 64 t - 11 < 64
-  zeros_lt = go (count_leading_zeros 64 t) z.0 z.1
-    where
-      go : (l j : ℕ) → l + suc j ≡ 64 → l - 11 < 64
-      go l j x = omega arith
 
   n_is : count_leading_zeros 64 t - 11 ≡ 52 - z.0
   n_is = go (count_leading_zeros 64 t) z.0 z.1 j_lt
@@ -213,3 +149,24 @@ module _ (t : ℕ) (b : t < 2 ^ 52) (p : 0 < t) where
 
       all : (j : ℕ) → j < 52 → 52 - j + (52 - (52 - j)) ≡ 52
       all j x = omega arith
+
+-- the three cases
+pub held_normal : (e t : ℕ) → e < 2047 → t < 2 ^ 52 → 0 < e → Held e t (t + 2 ^ 52) (e + 1178)
+held_normal e t a b p = record { value = subst (λ (k : ℕ). Digits e t (t + 2 ^ 52) k) (at e) (digits_normal e t a b p); least = omega arith }
+  where
+    at : (e : ℕ) → e + 51 ≡ e + 1178 - 1127
+    at e = omega arith
+
+pub held_subnormal : (e t n : ℕ) → t < 2 ^ 52 → e ≤ 0 → 0 < t → n ≡ count_leading_zeros 64 t → Held e t (t * 2 ^ (n - 11) % 2 ^ 64) (1179 - (n - 11))
+held_subnormal e t n b h p z =
+    subst (λ (m : ℕ). Held e t (t * 2 ^ (m - 11) % 2 ^ 64) (1179 - (m - 11))) (sym z)
+    (record { value = subst (λ (k : ℕ). Digits e t (t * 2 ^ (count_leading_zeros 64 t - 11) % 2 ^ 64) k) (at (count_leading_zeros 64 t - 11)) (digits_subnormal t b p e h); least = least (count_leading_zeros 64 t - 11) (zeros_le t b p) })
+  where
+    at : (n : ℕ) → 52 - n ≡ 1179 - n - 1127
+    at n = omega arith
+
+    least : (n : ℕ) → n ≤ 52 → 1127 ≤ 1179 - n
+    least n x = omega arith
+
+pub held_none : (e t : ℕ) → e ≤ 0 → t ≤ 0 → Held e t 0 1127
+held_none e t h k = record { value = digits_none e t h k; least = lit≤ tt }

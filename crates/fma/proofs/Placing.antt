@@ -1,15 +1,15 @@
--- What the proof of `rounded` cites. Assumes nothing.
+-- What the proof of `WideTerm::rounded` cites. Assumes nothing.
 use mathlib.Core.Path.{◌≡◌, refl, sym, ap, ◌∙◌, subst}
 use mathlib.Core.Logic.{◌⊎◌, inl, inr}
 use mathlib.Core.Bool.{Bool, true, false, not, cond}
 use Prim.Native.Nat.{ℕ, suc, ◌+◌, ◌-◌, ◌*◌, ◌%◌, ◌^◌, ◌≤◌, ◌<◌}
-use native.Mathlib.Nat.{le_trans, lt_of_lt_of_le, lt_of_le_of_lt, lt_of_not-le, lt_irrefl, add-zero, add-mul, zero-mul, mul_assoc, mul_comm, le-add_right, eq_of_mul-eq-mul_right, lt_of_mul-lt-mul_right, le_of_mul-le-mul_right, add-sub_of_le}
+use native.Mathlib.Nat.{lt_of_lt_of_le, lt_of_le_of_lt, lt_of_not-le, lt_irrefl, add-zero, add-mul, zero-mul, mul_assoc, mul_comm, le-add_right, eq_of_mul-eq-mul_right, lt_of_mul-lt-mul_right, le_of_mul-le-mul_right, add-sub_of_le}
 use native.Mathlib.Omega.{arith}
 use lib.IntN.{pos}
 use mir.Val.{bool_byte}
-use lib.Dec.{T, lit<}
+use lib.Dec.{T}
 use lib.Pow.{pow-add, pow_pos, pow_mono}
-use lib.Count.{count_leading_zeros, leading_top, leading_le}
+use lib.Count.{count_leading_zeros, leading_top}
 use lib.Ieee.{fin, binary64, round, is_nan, nan_bits, of_bits}
 use lib.Ieee.Bits.{nan_bits_is}
 use Rattle.ieee.proofs.Pack.{round_no_nan, too_small}
@@ -59,15 +59,6 @@ unscale w n v u x (inside h r y e p l) =
     first d q = omega arith
 
 module _ (sign : Bool) (hi lo j : ℕ) (H : hi < 2 ^ 64) (L : lo < 2 ^ 64) where
-  pub zeros_fit : (a : ℕ) → count_leading_zeros 64 a < 2 ^ 64
-  zeros_fit a = lt_of_le_of_lt (leading_le 64 a) (lit< tt)
-
-  pub zeros_le : (a m : ℕ) → count_leading_zeros 64 a ≤ j + (64 + m)
-  zeros_le a m = le_trans (leading_le 64 a) (go j m)
-    where
-      go : (j m : ℕ) → 64 ≤ j + (64 + m)
-      go j m = omega arith
-
   -- the upper limb is not 0
   pub place_high : (c v r : ℕ) → 0 < hi → c ≡ count_leading_zeros 64 hi → Top hi lo c v → Finished v (j + 129 - c) r → Placed sign (hi * 2 ^ 64 + lo) j (of_bits binary64 (bool_byte sign * 2 ^ 63 % 2 ^ 64 + r))
   place_high c v r p zc t f = record {

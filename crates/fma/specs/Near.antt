@@ -1,8 +1,13 @@
 -- What the inner functions of `mul_add` ensure (for 01-scope.md, "Fused multiply-add and parity"), and numbers rounded to odd. Definitions only.
-use Rattle.std.specs.Prelude.{◌≡◌, Bool, cond, true, false, not, ℕ, suc, ◌+◌, ◌-◌, ◌*◌, ◌/◌, ◌%◌, ◌^◌, ◌≤◌, ◌<◌, ◌⊎◌, T, Float}
+use Rattle.std.specs.Prelude.{◌≡◌, Bool, cond, ℕ, suc, ◌+◌, ◌-◌, ◌*◌, ◌/◌, ◌%◌, ◌^◌, ◌≤◌, ◌<◌, ◌⊎◌, Float}
 use Rattle.ieee.specs.Patterns.{lead, expo}
 use Rattle.std.specs.Float.{nan, inf, binary64}
-use Rattle.std.specs.Float.Ieee.{round, sum, is_nan, to_bits, of_bits}
+use Rattle.std.specs.Float.Ieee.{round, sum, of_bits}
+use Rattle.fma.specs.declared.Wide.{Wide}
+
+-- the number that two limbs are
+abbrev pub wide_value : Wide → ℕ
+wide_value w = w.hi * 2 ^ 64 + w.lo
 
 -- X * 2 ^ i stands for S: it is S, or X is odd, 2 * h + 1, and S lies strictly between the even numbers beside it, times 2 ^ i.
 -- Whatever rounds at a multiple of 2 * 2 ^ i rounds S and X * 2 ^ i alike.
@@ -66,8 +71,3 @@ pub record Finite (b : ℕ) : Type 0 where
 pub data Special (x : Float) : Type 0 where
   nan_operand : x ≡ nan → Special x
   inf_operand : (s : Bool) → x ≡ inf s → Special x
-
--- r says whether x is finite
-pub record Sorted (x : Float) (r : Bool) : Type 0 where
-  pub finite : r ≡ true → T (not (is_nan x)) × Finite (to_bits binary64 x)
-  pub special : r ≡ false → Special x

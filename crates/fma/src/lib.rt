@@ -1,36 +1,53 @@
 // IEEE 754's fused multiply-add, from whole numbers of 64 bits: one rounding.
+// std's `f64::mul_add` gives the same value (proofs/Same); the scope asks for this form, from whole-number limbs.
 #![tactic(auto)]
 
-ghost use Rattle.std.specs.Prelude.{◌≡◌, ◌+◌, ◌*◌, ◌-◌, ◌≤◌, ◌<◌, ◌^◌, ltb};
+ghost use Rattle.std.specs.Prelude.{Float, ◌≡◌, ◌+◌, ◌*◌, ◌-◌, ◌≤◌, ◌<◌, ◌^◌};
 ghost use Rattle.std.specs.Int.Count.{count_leading_zeros};
-ghost use Rattle.fma.specs.Near.{Near, Jammed, Top, Digits, Finished, Placed, Summed, Settled, Factors, Sorted, Finite};
+ghost use Rattle.fma.specs.Near.{wide_value, Near, Jammed, Top, Finished, Placed, Summed, Settled, Finite};
 ghost use Rattle.fma.specs.Fma.{fma};
 ghost use Rattle.std.specs.Float.Ieee as Ieee;
 ghost use Rattle.std.specs.Float.{binary64};
+ghost use Rattle.std.specs.Float.Ieee.{unlike};
+ghost use Rattle.std.specs.Float.Ieee.Exact.{HasValue};
 
-// A value q * 2^k / 2^1126, with 2^52 <= q < 2^53, or q = 0.
+use std::cmp::Ordering;
+
+// The fields of a pattern, by their masks, and the digit that leads those of a normal value.
+const EXPONENT: u64 = 0x7ff;
+
+const FRACTION: u64 = 0xf_ffff_ffff_ffff;
+
+const LEADING_DIGIT: u64 = 0x10_0000_0000_0000;
+
+const INFINITY: u64 = 0x7ff0_0000_0000_0000;
+
+// A value with its sign: digits * 2^exponent / 2^2253. It has 53 digits, or is 0.
 #[derive(Clone, Copy)]
-struct Parts {
-    q: u64,
-    k: u64,
+struct Term {
+    sign: bool,
+    digits: u64,
+    exponent: u64,
+    ghost lo: { 0 < digits → 2 ^ 52 ≤ digits },
+    ghost hi: { digits < 2 ^ 53 },
+    ghost least: { 1127 ≤ exponent },
+    ghost most: { exponent ≤ 3224 },
 }
 
-// hi * 2^64 + lo
-#[derive(Clone, Copy)]
+// hi * 2^64 + lo, and so ordered (`limbs_cmp` of proofs/Limbs).
+#[derive(Clone, Copy, PartialEq, Eq, PartialOrd, Ord)]
 struct Wide {
     hi: u64,
     lo: u64,
 }
 
-// Whether x is finite.
-fn finite(x: f64) -> bool
-    ensures { Sorted x result }
-{
-    if x != x {
-        false
-    } else {
-        (f64::to_bits(x) & 0x7fff_ffff_ffff_ffff) < 0x7ff0_0000_0000_0000
-    }
+// A value with its sign: digits * 2^exponent / 2^2253, for digits of two limbs. The bound on the exponent is no ghost field: a struct that
+// has one takes no `..self`, so each literal below would name every field.
+#[derive(Clone, Copy)]
+struct WideTerm {
+    sign: bool,
+    digits: Wide,
+    exponent: u64,
 }
 
 // w / 2^n, cut, and made odd where something was cut off.
@@ -38,58 +55,59 @@ fn jam(w: u64, n: u64) -> u64
     ensures { Jammed w n result }
 {
     if n > 63 {
-        if w == 0 { 0 } else { 1 }
+        u64::from(w != 0)
     } else {
-        let q: u64 = w >> n;
+        let q = w >> n;
         if q << n == w { q } else { q | 1 }
     }
 }
 
-// The value of an exponent's field e and digits t, with 53 digits, or 0.
-fn digits_of(e: u64, t: u64) -> Parts
-    requires { (e < 2047) × (t < 2 ^ 52) }
-    ensures { Digits e t result.q result.k }
-{
-    if e > 0 {
-        Parts {
-            q: t + 0x10_0000_0000_0000,
-            k: e + 51,
+impl Term {
+    // The value of a finite float's pattern. An exponent's field e above 0 stands for 2^(e - 1075), which is 2^(e + 1178) / 2^2253, and 0 for
+    // what 1 does.
+    fn of_pattern(bits: u64) -> Term
+        requires { Finite bits }
+        ensures { HasValue (Ieee.of_bits binary64 bits) result.sign (result.digits * 2 ^ result.exponent) (2 ^ 2253) }
+    {
+        let sign = bits >> 63 == 1;
+        let field = (bits >> 52) & EXPONENT;
+        let digits = bits & FRACTION;
+        if field > 0 {
+            Term {
+                sign,
+                digits: digits + LEADING_DIGIT,
+                exponent: field + 1178,
+            }
+        } else if digits > 0 {
+            let shift = u64::from(digits.leading_zeros()) - 11;
+            Term {
+                sign,
+                digits: digits << shift,
+                exponent: 1179 - shift,
+            }
+        } else {
+            Term {
+                sign,
+                digits: 0,
+                exponent: 1127,
+            }
         }
-    } else if t > 0 {
-        let n: u64 = (u64::leading_zeros(t) as u64) - 11;
-        Parts {
-            q: t << n,
-            k: 52 - n,
-        }
-    } else {
-        Parts { q: 0, k: 0 }
     }
 }
 
 impl Wide {
-    // (x1 * 2^32 + x0) * (y1 * 2^32 + y0)
-    fn cross(x1: u64, x0: u64, y1: u64, y0: u64) -> Wide
-        requires { (x1 < 2 ^ 22) × (x0 < 2 ^ 32) × (y1 < 2 ^ 21) × (y0 < 2 ^ 32) }
-        ensures { result.hi * 2 ^ 64 + result.lo ≡ (x1 * 2 ^ 32 + x0) * (y1 * 2 ^ 32 + y0) }
-    {
-        let p: u64 = x0 * y0;
-        let m: u64 = x1 * y0 + x0 * y1 + (p >> 32);
-        let h: u64 = x1 * y1 + (m >> 32);
-        let l: u64 = ((m & 0xffff_ffff) << 32) + (p & 0xffff_ffff);
-        Wide { hi: h, lo: l }
-    }
-
+    // x * y
     fn product(x: u64, y: u64) -> Wide
-        requires { (x < 2 ^ 54) × (y < 2 ^ 53) }
-        ensures { result.hi * 2 ^ 64 + result.lo ≡ x * y }
+        ensures { wide_value result ≡ x * y }
     {
-        Wide::cross(x >> 32, x & 0xffff_ffff, y >> 32, y & 0xffff_ffff)
+        let (lo, hi) = x.carrying_mul(y, 0);
+        Wide { hi, lo }
     }
 
     // q * 2^d
     fn shifted(q: u64, d: u64) -> Wide
         requires { (q < 2 ^ 53) × (d ≤ 74) }
-        ensures { result.hi * 2 ^ 64 + result.lo ≡ q * 2 ^ d }
+        ensures { wide_value result ≡ q * 2 ^ d }
     {
         if d > 63 {
             Wide {
@@ -108,69 +126,45 @@ impl Wide {
 
     fn plus(self, other: Wide) -> Wide
         requires { self.hi + other.hi < 2 ^ 64 - 1 }
-        ensures { result.hi * 2 ^ 64 + result.lo ≡ self.hi * 2 ^ 64 + self.lo + (other.hi * 2 ^ 64 + other.lo) }
+        ensures { wide_value result ≡ wide_value self + wide_value other }
     {
-        if self.lo <= 0xffff_ffff_ffff_ffff - other.lo {
-            Wide {
-                hi: self.hi + other.hi,
-                lo: self.lo + other.lo,
-            }
-        } else {
-            Wide {
-                hi: self.hi + other.hi + 1,
-                lo: self.lo - (0xffff_ffff_ffff_ffff - other.lo) - 1,
-            }
-        }
+        let (lo, carry) = self.lo.carrying_add(other.lo, false);
+        let (hi, _) = self.hi.carrying_add(other.hi, carry);
+        Wide { hi, lo }
     }
 
     // self - other, for other <= self
-    fn less(self, other: Wide) -> Wide
-        requires { other.hi * 2 ^ 64 + other.lo ≤ self.hi * 2 ^ 64 + self.lo }
-        ensures { result.hi * 2 ^ 64 + result.lo + (other.hi * 2 ^ 64 + other.lo) ≡ self.hi * 2 ^ 64 + self.lo }
+    fn minus(self, other: Wide) -> Wide
+        requires { wide_value other ≤ wide_value self }
+        ensures { wide_value result + wide_value other ≡ wide_value self }
     {
-        if other.lo <= self.lo {
-            Wide {
-                hi: self.hi - other.hi,
-                lo: self.lo - other.lo,
-            }
-        } else {
-            Wide {
-                hi: self.hi - other.hi - 1,
-                lo: self.lo + (0xffff_ffff_ffff_ffff - other.lo) + 1,
-            }
-        }
-    }
-
-    fn is_below(self, other: Wide) -> bool
-        ensures { result ≡ ltb (self.hi * 2 ^ 64 + self.lo) (other.hi * 2 ^ 64 + other.lo) }
-    {
-        if self.hi < other.hi {
-            true
-        } else if self.hi > other.hi {
-            false
-        } else {
-            self.lo < other.lo
-        }
+        let (lo, borrow) = self.lo.borrowing_sub(other.lo, false);
+        let (hi, _) = self.hi.borrowing_sub(other.hi, borrow);
+        Wide { hi, lo }
     }
 
     // self / 2^64, cut, and made odd where something was cut off.
     fn sticky_high(self) -> u64
-        ensures { Near (self.hi * 2 ^ 64 + self.lo) 64 result }
+        ensures { Near (wide_value self) 64 result }
     {
         if self.lo == 0 { self.hi } else { self.hi | 1 }
     }
-}
 
-// (a * 2^64 + b) / 2^(65 - c), where c is the number of a's leading zeros: 63 digits, the last of them odd where something was cut off.
-fn top63(a: u64, b: u64, c: u64) -> u64
-    requires { (0 < a) × (c ≡ count_leading_zeros 64 a) }
-    ensures { Top a b c result }
-{
-    if c == 0 {
-        if b == 0 { jam(a, 1) } else { jam(a | 1, 1) }
-    } else {
-        let v: u64 = (a << (c - 1)) + ((b >> 1) >> (64 - c));
-        if b << (c - 1) == 0 { v } else { v | 1 }
+    // self / 2^(65 - zeros), where hi has this many leading zeros: 63 digits, the last of them odd where something was cut off.
+    fn top63(self, zeros: u64) -> u64
+        requires { (0 < self.hi) × (zeros ≡ count_leading_zeros 64 self.hi) }
+        ensures { Top self.hi self.lo zeros result }
+    {
+        if zeros == 0 {
+            jam(self.sticky_high(), 1)
+        } else {
+            let v = (self.hi << (zeros - 1)) + ((self.lo >> 1) >> (64 - zeros));
+            if self.lo << (zeros - 1) == 0 {
+                v
+            } else {
+                v | 1
+            }
+        }
     }
 }
 
@@ -180,7 +174,7 @@ fn finish(v: u64, i: u64) -> u64
     ensures { Finished v i result }
 {
     if i > 3278 {
-        0x7ff0_0000_0000_0000
+        INFINITY
     } else if i > 1232 {
         ((i - 1233) << 52) + ieee::nearest_shift(v, 10)
     } else if i > 1179 {
@@ -190,113 +184,156 @@ fn finish(v: u64, i: u64) -> u64
     }
 }
 
-// The `f64` nearest to w * 2^j / 2^2253, with a sign, which a zero has too.
-fn rounded(sign: bool, w: Wide, j: u64) -> f64
-    requires { j < 2 ^ 32 }
-    ensures { Placed sign (w.hi * 2 ^ 64 + w.lo) j result }
-{
-    let Wide { hi, lo } = w;
-    if hi > 0 {
-        let c: u64 = u64::leading_zeros(hi) as u64;
-        let v: u64 = top63(hi, lo, c);
-        f64::from_bits(((sign as u64) << 63) + finish(v, j + 129 - c))
-    } else if lo > 0 {
-        let c: u64 = u64::leading_zeros(lo) as u64;
-        let v: u64 = top63(lo, 0, c);
-        f64::from_bits(((sign as u64) << 63) + finish(v, j + 65 - c))
-    } else {
-        f64::from_bits((sign as u64) << 63)
+impl WideTerm {
+    // The nearest `f64`, with the sign, which a zero has too.
+    fn rounded(self) -> f64
+        requires { self.exponent < 2 ^ 32 }
+        ensures { Placed self.sign (wide_value self.digits) self.exponent result }
+    {
+        let Wide { hi, lo } = self.digits;
+        let sign = u64::from(self.sign) << 63;
+        if hi > 0 {
+            let zeros = u64::from(hi.leading_zeros());
+            let v = self.digits.top63(zeros);
+            f64::from_bits(sign + finish(v, self.exponent + 129 - zeros))
+        } else if lo > 0 {
+            let zeros = u64::from(lo.leading_zeros());
+            let v = Wide { hi: lo, lo: 0 }.top63(zeros);
+            f64::from_bits(sign + finish(v, self.exponent + 65 - zeros))
+        } else {
+            f64::from_bits(sign)
+        }
+    }
+
+    // self + z, where z lies far above it.
+    fn plus_far(self, z: Term) -> WideTerm
+        requires { (self.digits.hi < 2 ^ 43) × (0 < z.digits) × (self.exponent + 74 < z.exponent) }
+        ensures exponent { result.exponent < 2 ^ 32 }
+        ensures sum { (r : Float) → Placed result.sign (wide_value result.digits) result.exponent r
+            → Summed self.sign (wide_value self.digits) self.exponent z.sign z.digits z.exponent r }
+    {
+        let h = self.digits.sticky_high();
+        let gap = z.exponent - self.exponent;
+        if self.sign == z.sign {
+            WideTerm {
+                sign: z.sign,
+                digits: Wide {
+                    hi: 0,
+                    lo: (z.digits << 10) + jam(h, gap - 74),
+                },
+                exponent: z.exponent - 10,
+            }
+        } else {
+            WideTerm {
+                sign: z.sign,
+                digits: Wide {
+                    hi: 0,
+                    lo: (z.digits << 11) - jam(h, gap - 75),
+                },
+                exponent: z.exponent - 11,
+            }
+        }
+    }
+
+    // self + z, which have one exponent. Where they cancel it is +0.
+    fn plus(self, z: WideTerm) -> WideTerm
+        requires { (self.digits.hi < 2 ^ 43) × (z.digits.hi < 2 ^ 63) × (z.exponent ≡ self.exponent) }
+        ensures exponent { result.exponent ≡ self.exponent }
+        ensures sum { (r : Float) → Placed result.sign (wide_value result.digits) result.exponent r
+            → Settled self.sign (wide_value self.digits) self.exponent z.sign (wide_value z.digits) r }
+    {
+        if self.sign == z.sign {
+            WideTerm {
+                digits: self.digits.plus(z.digits),
+                ..self
+            }
+        } else {
+            match self.digits.cmp(&z.digits) {
+                Ordering::Less => WideTerm {
+                    digits: z.digits.minus(self.digits),
+                    ..z
+                },
+                Ordering::Equal => WideTerm {
+                    sign: false,
+                    digits: Wide { hi: 0, lo: 0 },
+                    ..self
+                },
+                Ordering::Greater => WideTerm {
+                    digits: self.digits.minus(z.digits),
+                    ..self
+                },
+            }
+        }
     }
 }
 
-// The two values lie far apart, the second above the first.
-fn far(s: bool, p: Wide, k: u64, t: bool, q: u64, d: u64) -> f64
-    requires { (p.hi < 2 ^ 43) × (2 ^ 52 ≤ q) × (q < 2 ^ 53) × (k + 74 < d) × (d < 2 ^ 32) }
-    ensures { Summed s (p.hi * 2 ^ 64 + p.lo) k t q d result }
+// x * y + z, to be rounded: its last digit is odd where something was cut off. A zero is added in the places of the other value: its own
+// say nothing.
+fn unrounded(x: Term, y: Term, z: Term) -> WideTerm
+    ensures exponent { result.exponent < 2 ^ 32 }
+    ensures sum { (r : Float) → Placed result.sign (wide_value result.digits) result.exponent r
+        → Summed (unlike x.sign y.sign) (x.digits * 2 * y.digits) (x.exponent + y.exponent - 2254) z.sign z.digits z.exponent r }
 {
-    let h: u64 = p.sticky_high();
-    if s == t {
-        let w = Wide {
+    // Of the two denominators one is left, and a factor 2 goes to the digits, so that they are even.
+    let product = WideTerm {
+        sign: x.sign != y.sign,
+        digits: Wide::product(x.digits << 1, y.digits),
+        exponent: x.exponent + y.exponent - 2254,
+    };
+    let addend = WideTerm {
+        sign: z.sign,
+        digits: Wide {
             hi: 0,
-            lo: (q << 10) + jam(h, d - k - 74),
+            lo: z.digits,
+        },
+        exponent: z.exponent,
+    };
+    if product.digits.hi == 0 {
+        let zero = WideTerm {
+            exponent: z.exponent,
+            ..product
         };
-        rounded(t, w, d - 10)
+        zero.plus(addend)
+    } else if z.digits == 0 {
+        product.plus(WideTerm {
+            exponent: product.exponent,
+            ..addend
+        })
+    } else if z.exponent > product.exponent + 74 {
+        product.plus_far(z)
+    } else if z.exponent >= product.exponent {
+        product.plus(WideTerm {
+            digits: Wide::shifted(z.digits, z.exponent - product.exponent),
+            exponent: product.exponent,
+            ..addend
+        })
     } else {
-        let w = Wide {
-            hi: 0,
-            lo: (q << 11) - jam(h, d - k - 75),
-        };
-        rounded(t, w, d - 11)
+        product.plus(WideTerm {
+            digits: Wide {
+                hi: 0,
+                lo: jam(z.digits, product.exponent - z.exponent),
+            },
+            exponent: product.exponent,
+            ..addend
+        })
     }
-}
-
-// The sum of the two, each with its sign, as two limbs. Where they undo each other it is +0.
-fn close(s: bool, p: Wide, k: u64, t: bool, z: Wide) -> f64
-    requires { (p.hi < 2 ^ 43) × (z.hi < 2 ^ 63) × (k < 2 ^ 32) }
-    ensures { Settled s (p.hi * 2 ^ 64 + p.lo) k t (z.hi * 2 ^ 64 + z.lo) result }
-{
-    if s == t {
-        rounded(s, p.plus(z), k)
-    } else if p.is_below(z) {
-        rounded(t, z.less(p), k)
-    } else if z.is_below(p) {
-        rounded(s, p.less(z), k)
-    } else {
-        0.0
-    }
-}
-
-// a * b * 2^k / 2^2253 with the sign s, and q * 2^d / 2^2253 with the sign t, for an even a of 54 digits and b and q of 53, or 0.
-// A zero is added in the places of the other value: its own say nothing.
-fn combined(s: bool, a: u64, b: u64, k: u64, t: bool, q: u64, d: u64) -> f64
-    requires { Factors a b × (0 < q → 2 ^ 52 ≤ q) × (q < 2 ^ 53) × (k < 2 ^ 31) × (d < 2 ^ 31) }
-    ensures { Summed s (a * b) k t q d result }
-{
-    let p = Wide::product(a, b);
-    if p.hi == 0 {
-        close(s, p, d, t, Wide { hi: 0, lo: q })
-    } else if q == 0 {
-        close(s, p, k, t, Wide { hi: 0, lo: 0 })
-    } else if d > k + 74 {
-        far(s, p, k, t, q, d)
-    } else if d >= k {
-        close(s, p, k, t, Wide::shifted(q, d - k))
-    } else {
-        let z = Wide {
-            hi: 0,
-            lo: jam(q, k - d),
-        };
-        close(s, p, k, t, z)
-    }
-}
-
-// The three values are finite, with the patterns bx, by and bz.
-fn fused(bx: u64, by: u64, bz: u64) -> f64
-    requires { Finite bx × Finite by × Finite bz }
-    ensures { result ≡ fma binary64 (Ieee.of_bits binary64 bx) (Ieee.of_bits binary64 by) (Ieee.of_bits binary64 bz) }
-{
-    let x = digits_of((bx >> 52) & 0x7ff, bx & 0xf_ffff_ffff_ffff);
-    let y = digits_of((by >> 52) & 0x7ff, by & 0xf_ffff_ffff_ffff);
-    let z = digits_of((bz >> 52) & 0x7ff, bz & 0xf_ffff_ffff_ffff);
-    let s = (bx >> 63 == 1) != (by >> 63 == 1);
-    combined(s, x.q << 1, y.q, x.k + y.k, bz >> 63 == 1, z.q, z.k + 1127)
 }
 
 // x * y + z, rounded once.
+#[tactic(auto, using(crate::proofs::Fusing::special_left, crate::proofs::Fusing::special_right, crate::proofs::Fusing::special_added, crate::proofs::Fusing::finite_pattern))]
 pub fn mul_add(x: f64, y: f64, z: f64) -> f64
     ensures { result ≡ fma binary64 x y z }
 {
-    if finite(x) {
-        if finite(y) {
-            if finite(z) {
-                fused(f64::to_bits(x), f64::to_bits(y), f64::to_bits(z))
-            } else {
-                z
-            }
-        } else {
-            x * y + z
-        }
-    } else {
+    if !x.is_finite() || !y.is_finite() {
         x * y + z
+    } else if !z.is_finite() {
+        z
+    } else {
+        unrounded(
+            Term::of_pattern(x.to_bits()),
+            Term::of_pattern(y.to_bits()),
+            Term::of_pattern(z.to_bits()),
+        )
+        .rounded()
     }
 }

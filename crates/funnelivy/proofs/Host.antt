@@ -13,7 +13,7 @@ use borrow.Author.Tests.{eq-eqb, ne_eqb}
 use Rattle.std.specs.Prelude.{None, Some, Result, Ok, Err}
 use Rattle.limits.specs.declared.Refusal.{Refusal}
 use Rattle.limits.specs.declared.Refusal.TheVariants as why
-use Rattle.limits.specs.Refusals.{number_of}
+use Rattle.limits.specs.Refusals.{number_of, number_or_zero}
 use Rattle.limits.proofs.Causes.{number_positive}
 use Rattle.plain.specs.declared.End.{End}
 use Rattle.plain.specs.declared.End.TheVariants as end
@@ -44,7 +44,7 @@ use Rattle.c_record.specs.Record.{session_of}
 use Rattle.c_record.specs.Session.{opened_wire, fed_wire, end_wire, reading_wire}
 use Rattle.c_record.proofs.RoundTrip.{round_trip}
 use Rattle.c_card.specs.declared.FunnelivyCardAnswer.{FunnelivyCardAnswer}
-use Rattle.c_card.specs.Cards.{refused_by, written_wire, read_wire}
+use Rattle.c_card.specs.Cards.{refused_by, read_wire}
 use Rattle.funnelivy.specs.Session.{OpenedMeets, FedMeets, ReadingMeets}
 use Rattle.funnelivy.specs.Cards.{session_card_answer}
 use Rattle.funnelivy.specs.Host.{HostTrace, done, feeds, reads, lends, changes, refusal_by, fed_answer, next_of, reading_point, read_answer, Followed, HostCard}
@@ -244,7 +244,7 @@ module _ (mode anchor : ℕ) (st : List ℕ) (sm first sm₀ : List Float) where
       subst (HostCard mode g) (sym (is ∙ ap read_wire b.given))
       (record {
         refusal = refl;
-        written = λ out size. ap written_wire (b.written out size).0;
+        written = λ out size. ap number_or_zero (b.written out size).0;
         back = λ out size. ap (λ (bytes : List ℕ). read_wire (card.read_answer bytes)) (b.written out size).1 ∙ ap read_wire b.back;
         mode = b.mode;
         says = b.says ∙ ap point_ledger (sym (reading_point_lem f g n none));

@@ -8,6 +8,7 @@ use native.Mathlib.Omega.{arith}
 use lib.ListN.{length}
 use Rattle.std.specs.Prelude.{Result, Ok, Err}
 use Rattle.limits.specs.declared.Refusal.{Refusal}
+use Rattle.limits.specs.Refusals.{number_or_zero}
 use Rattle.limits.proofs.Causes.{number_positive}
 use Rattle.words.proofs.RoundTrip.{Bytes}
 use Rattle.card.specs.declared.Card.{Card}
@@ -15,7 +16,7 @@ use Rattle.card.specs.Card.{write_answer, read_answer}
 use Rattle.card.proofs.RoundTrip as card
 use Rattle.card.proofs.RoundTrip.{Typed}
 use Rattle.c_card.specs.declared.FunnelivyCard.{FunnelivyCard}
-use Rattle.c_card.specs.Cards.{card_of_wire, written_wire, read_wire}
+use Rattle.c_card.specs.Cards.{card_of_wire, read_wire}
 use Rattle.funnelivy.specs.Cards.{write_card_answer, card_buffer, read_card_answer}
 
 -- ---- the number 0 is that of no refusal
@@ -27,7 +28,7 @@ read_holds bytes none = go (read_answer bytes) none
     go (Ok c) z = refl
     go (Err e) z = absurd (let l = number_positive e in omega arith)
 
-write_done : (r : Result Unit Refusal) → written_wire r ≡ 0 → r ≡ Ok tt
+write_done : (r : Result Unit Refusal) → number_or_zero r ≡ 0 → r ≡ Ok tt
 write_done (Ok tt) z = refl
 write_done (Err e) z = absurd (let l = number_positive e in omega arith)
 
@@ -37,7 +38,7 @@ pub read_writes_back : (bytes out : List ℕ) → Bytes bytes → length out ≡
     → (write_card_answer (read_card_answer bytes).card out ≡ 0) × (card_buffer (read_card_answer bytes).card out ≡ bytes)
 read_writes_back bytes out h size none =
     let b = card.read_writes_back bytes out (card_of_wire (read_card_answer bytes).card) h size (read_holds bytes none) in
-    (ap written_wire b.0, b.1)
+    (ap number_or_zero b.0, b.1)
 
 pub written_reads_back : (w : FunnelivyCard) (out : List ℕ) → Typed (card_of_wire w) → write_card_answer w out ≡ 0
     → read_card_answer (card_buffer w out) ≡ record { refusal = 0; card = w }

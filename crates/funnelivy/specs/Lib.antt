@@ -1,5 +1,4 @@
 -- What the exported calls answer, as the numbers of the C records. Definitions only.
-pub mod Sizes
 pub mod Sound
 pub mod Report
 pub mod Session

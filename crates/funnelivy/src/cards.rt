@@ -13,7 +13,7 @@ pub extern "C" fn funnelivy_write_card(card: FunnelivyCard, out: &mut [u8]) -> u
     ensures value { result ≡ write_card_answer card out.old }
     ensures out_after { out.new ≡ card_buffer card out.old }
 {
-    c_card::written_wire(card::write_card(Card::from(card), out))
+    limits::number_or_zero(card::write_card(Card::from(card), out))
 }
 
 #[unsafe(no_mangle)]

@@ -1,29 +1,16 @@
 // Sizes of a mode, and the columns of its pulse.
 ghost use Rattle.std.specs.Prelude.{◌≡◌};
-ghost use Rattle.modespec.specs.Calls.{columns_of};
-ghost use Rattle.c_answer.specs.Counts.{columns_wire};
-ghost use Rattle.funnelivy.specs.Sizes.{sizes_answer};
+ghost use Rattle.modespec.specs.Calls.{columns_of, sizes_of};
+ghost use Rattle.c_answer.specs.Counts.{columns_wire, sizes_wire};
 
 use c_answer::{FunnelivyColumnsAnswer, FunnelivySizesAnswer};
-use modespec::Mode;
 
 // The sizes from which a host makes its stores. Refuses a mode above 15 with 1.
-#[tactic(auto, unfolding(crate::specs::Sizes::sizes_answer))]
 #[unsafe(no_mangle)]
 pub extern "C" fn funnelivy_sizes(mode: u8) -> FunnelivySizesAnswer
-    ensures { result ≡ sizes_answer mode }
+    ensures { result ≡ sizes_wire (sizes_of mode) }
 {
-    match Mode::try_from(mode) {
-        Ok(named) => FunnelivySizesAnswer {
-            refusal: 0,
-            window: modespec::mode_window_probes(mode) as u64,
-            picture: modespec::image_probes(named.spec(), limits::WORKING_SAMPLE_RATE_HZ) as u64,
-        },
-        Err(refusal) => FunnelivySizesAnswer {
-            refusal: refusal.number() as u32,
-            ..Default::default()
-        },
-    }
+    modespec::mode_sizes(mode).into()
 }
 
 // `sync_pulse_columns`.

@@ -11,7 +11,7 @@ use c_answer::FunnelivyDecisionAnswer;
 pub extern "C" fn funnelivy_sync_window(sound: &[f32], centre: u64, buffer: &mut [f32]) -> u32
     ensures { WindowMeets sound.now centre buffer.old result buffer.new }
 {
-    c_answer::sound::refusal_of(probe::sync_window(sound, centre, buffer))
+    limits::number_or_zero(probe::sync_window(sound, centre, buffer))
 }
 
 // `has_sync_at`.

@@ -1,8 +1,7 @@
 -- Laws of an image that is drawn row by row. Assumes nothing.
-use mathlib.Core.Path.{◌≡◌, refl, ap, ◌∙◌}
+use mathlib.Core.Path.{◌≡◌, ap, ◌∙◌}
 use mathlib.Core.List.{List}
 use Prim.Native.Nat.{ℕ, ◌≤◌, ◌<◌, ◌+◌, ◌*◌}
-use native.Mathlib.Nat.{not-suc-le-zero}
 use native.Mathlib.Omega.{arith}
 use lib.ListN.{length, get_or, set, length-set}
 use lib.Ieee.{Float, nan}
@@ -18,9 +17,6 @@ pub seconds_at_lem : (line : Float) (w x y : ℕ) (parts : List Float) → parts
 unfolding seconds_by seconds_at
 seconds_at_lem line w x y parts t h = ap (λ (z : Float). seconds_by line z y) (rw t (get_d_list (column_part w) 700 x nan h))
 
-pub row_none : (f : ℕ → ℕ) (y : ℕ) (m : List ℕ) → RowDrawn f y 0 m m
-row_none f y m = record { size = refl; row = λ x h. absurd (not-suc-le-zero h); above = λ k h. refl; behind = refl }
-
 pub row_more : (f : ℕ → ℕ) (y n : ℕ) (old new : List ℕ) (v : ℕ) → y < 630 → n < 700 → 441000 ≤ length old → RowDrawn f y n old new → v ≡ f n
     → RowDrawn f y (n + 1) old (set new (y * 700 + n) v)
 row_more f y n old new v hy hn room r e =
@@ -34,9 +30,6 @@ row_more f y n old new v hy hn room r e =
       above = λ k h. get_or-set_other new (y * 700 + n) k v 0 (λ q. omega arith) ∙ r.above k h;
       behind = drop-set-lt 441000 new (y * 700 + n) v (omega arith) ∙ r.behind;
     }
-
-pub drawn_none : (f : ℕ → ℕ → ℕ) (across : ℕ) (m : List ℕ) → 441000 ≤ length m → Drawn f across 0 m m
-drawn_none f across m h = record { size = refl; shows = record { room = h; pixel = λ x y a b. absurd (not-suc-le-zero b) }; behind = refl }
 
 pub drawn_more : (f : ℕ → ℕ → ℕ) (across y : ℕ) (old mid new : List ℕ) → across ≤ 700 → Drawn f across y old mid → RowDrawn (λ x. f x y) y across mid new → Drawn f across (y + 1) old new
 drawn_more f across y old mid new n d r =

@@ -1,5 +1,5 @@
 // The image of a pass: which flag each pixel shows.
-ghost use Rattle.std.specs.Prelude.{◌≡◌, ◌≤◌, ◌<◌, min, length, get_or};
+ghost use Rattle.std.specs.Prelude.{◌≡◌, ◌≤◌, ◌<◌, min, length};
 ghost use Rattle.columns.specs.Columns.{list_to, column_part};
 ghost use Rattle.hough.specs.Pass.{flag_of};
 ghost use Rattle.hough.specs.Steps.{seconds_by, RowDrawn, Drawn};
@@ -11,13 +11,6 @@ fn seconds(line: f64, part: f64, y: usize) -> f64
     ensures { result ≡ seconds_by line part y }
 {
     ((y as f64) + part) * line
-}
-
-// The flag of a number: 0 beyond the last.
-fn flag(flags: &[u8], i: usize) -> u8
-    ensures { result ≡ get_or flags.now i 0 }
-{
-    flags.get(i).copied().unwrap_or(0)
 }
 
 // What a pass draws: the flags at a rate, in lines of `line` seconds and w columns.
@@ -34,13 +27,14 @@ impl Drawing<'_> {
         requires { (441000 ≤ length img.old) × (parts.now ≡ list_to (column_part self.w) 700) × (y < 630) }
         ensures { RowDrawn (λ x. flag_of self.entry.flags.now self.entry.rate self.entry.line self.entry.w x y) y (min self.entry.w 700) img.old img.new }
     {
+        // by number: x says which part of a line and which pixel
         for x in 0..self.w.min(700) {
             let time = seconds(self.line, parts[x], y);
-            img[y * 700 + x] = flag(self.flags, columns::probe_at(time, self.rate));
+            img[y * 700 + x] = columns::flag(self.flags, columns::probe_at(time, self.rate));
         }
     }
 
-    // Draws n rows, row by row: the pixel (x, y) stands at y * 700 + x.
+    // Draws n rows, row by row: the pixel (x, y) stands at y * 700 + x. The rows lie in one list, as the C interface lends it.
     pub fn draw(self, img: &mut [u8], n: usize)
         requires { (441000 ≤ length img.old) × (self.w ≤ 65536) × (n ≤ 630) }
         ensures { Drawn (λ x y. flag_of self.entry.flags.now self.entry.rate self.entry.line self.entry.w x y) (min self.entry.w 700) n img.old img.new }

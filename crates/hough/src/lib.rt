@@ -1,5 +1,6 @@
 // The search for a picture's slant: one pass draws the flags as an image and lets its pixels vote for lines
 // (`hough_detect_slant`), and up to four passes correct the rate.
+// The bounds on w, x, y and n stand in the contracts: a struct of one number would be opened at each sum and quotient.
 #![tactic(auto)]
 
 mod image;
@@ -15,11 +16,12 @@ use image::Drawing;
 use modespec::ModeSpec;
 use votes::Angles;
 
-// A slant that a pass found: its angle in degrees, and the rate that corrects it.
+// The answer of a pass: no slant, or one with its angle in degrees and the rate that corrects it. The scope document names this form,
+// an enum with an empty case and a case of two numbers.
 #[derive(Clone, Copy)]
-pub struct Slant {
-    pub angle: f64,
-    pub rate: f64,
+pub enum Slant {
+    None,
+    Found { angle: f64, rate: f64 },
 }
 
 // The rate after the passes, and the angle of the last slant found, in degrees.
@@ -30,7 +32,7 @@ pub struct Passes {
 }
 
 // The cell with the highest count so far, and that count. (A count has 16 bits; a struct without padding is copied
-// faster.)
+// faster.) Before the first vote the count is 0, the number of votes, and no `None`: the one test of `count_cell` then covers that too.
 #[derive(Clone, Copy)]
 pub struct Leader {
     pub count: usize,
@@ -38,22 +40,24 @@ pub struct Leader {
 }
 
 // The answer of a pass whose votes have this leader.
-fn answer(leader: Leader, rate: f64, w: usize) -> Option<Slant>
+fn answer(leader: Leader, rate: f64, w: usize) -> Slant
     requires { w ≤ 65536 }
     ensures { result ≡ answer_of leader rate w }
 {
     if leader.count == 0 {
-        return None;
+        return Slant::None;
     }
     let q = leader.cell % 240;
     let tangents = angles::tangents();
-    Some(Slant {
+    Slant::Found {
         angle: 30.0 + (q as f64) * 0.5,
         rate: rate + (tangents[q] / (w as f64)) * rate,
-    })
+    }
 }
 
-// Draws the flags and counts the votes. img and votes stay two slices: as `&mut` fields of a struct they can't be lent in part.
+// Draws the flags and counts the votes. The flags, rate, row and width stay apart, as the Rust's `hough_detect_slant` takes them; `Drawing`
+// is made of them once. img and votes stay two slices: a caller lends them so, and the pass would take a struct apart again, since drawing
+// writes img and voting reads it and writes votes.
 fn count_votes(
     flags: &[u8],
     rate: f64,
@@ -87,7 +91,7 @@ pub fn hough_detect_slant(
     w: usize,
     img: &mut [u8],
     votes: &mut [u16],
-) -> Option<Slant>
+) -> Slant
     requires { (w ≤ 65536) × ((441000 ≤ length img.old) × (144000 ≤ length votes.old)) }
     ensures { PassDone (pass_of flags.now rate spec w) result img.old img.new votes.old votes.new }
 {
@@ -101,11 +105,10 @@ pub fn hough_detect_slant(
 fn outside_deadband(angle: f64) -> bool
     ensures { result ≡ outside_deadband angle }
 {
-    let d = angle - 90.0;
-    d > 0.5 || d < -0.5
+    (angle - 90.0).abs() > 0.5
 }
 
-// Whether the angle is strictly between 89 and 91: the passes stop.
+// Whether the angle is strictly between 89 and 91: the passes stop. No range of std leaves out both its ends.
 fn slant_ok(angle: f64) -> bool
     ensures { result ≡ slant_ok angle }
 {
@@ -113,15 +116,12 @@ fn slant_ok(angle: f64) -> bool
 }
 
 // The state after a pass that found a slant.
-fn adjust(state: Passes, slant: Slant) -> Passes
-    ensures { result ≡ adjusted state slant.angle slant.rate }
+fn adjust(state: Passes, angle: f64, rate: f64) -> Passes
+    ensures { result ≡ adjusted state angle rate }
 {
-    let slant_deg = Some(slant.angle);
-    if outside_deadband(slant.angle) {
-        Passes {
-            rate: slant.rate,
-            slant_deg,
-        }
+    let slant_deg = Some(angle);
+    if outside_deadband(angle) {
+        Passes { rate, slant_deg }
     } else {
         Passes { slant_deg, ..state }
     }
@@ -129,6 +129,7 @@ fn adjust(state: Passes, slant: Slant) -> Passes
 
 // Up to four passes over the flags of a picture, from the starting rate on. Of img the first 441,000 places and of
 // votes the first 144,000 may hold anything, and come back as 0.
+// That a line has 65,536 columns at most is asked of the row here: as a ghost field of a row it would be asked of whoever makes one.
 pub fn slant_passes(
     flags: &[u8],
     rate: f64,
@@ -145,11 +146,13 @@ pub fn slant_passes(
         slant_deg: None,
     };
     for _ in 0..4usize {
-        let Some(slant) = hough_detect_slant(flags, state.rate, spec, w, img, votes) else {
+        let Slant::Found { angle, rate } = hough_detect_slant(
+            flags, state.rate, spec, w, img, votes,
+        ) else {
             return state;
         };
-        state = adjust(state, slant);
-        if slant_ok(slant.angle) {
+        state = adjust(state, angle, rate);
+        if slant_ok(angle) {
             return state;
         }
     }

@@ -1,5 +1,6 @@
 -- What the proofs of several functions use.
 pub mod Order
+pub mod Compare
 pub mod Unsigned
 pub mod Magnitudes
 pub mod Monotone

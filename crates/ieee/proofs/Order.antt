@@ -1,6 +1,6 @@
 -- A float compared with a power of two or with zero, and what that says of its casts to whole numbers. Assumes nothing.
 use Rattle.std.proofs.Common.{◌≡◌, ℕ, zero, suc, ◌+◌, ◌-◌, ◌*◌, ◌/◌, ◌%◌, ◌^◌, ◌<◌, ◌≤◌, min, Bool, true, false, not, T, pos, sym, refl, subst, zero-le, le_of_eq, lt_of_lt_of_le, lt_of_le_of_lt, mod-lt, mul-le-mul, lt_of_mul-lt-mul_right, mul-lt-mul_of_pos_right, one-mul, le-div_iff_mul-le, mul-one, mul_right_comm, arith, lit<, lt→ltb, nltb→le, pow_pos, pow_mono}
-use lib.Ieee.{Float, nan, inf, fin, binary64, up, down, of_bits, to_bits, fits, neg, lt, to_unsigned, to_signed}
+use lib.Ieee.{Float, nan, inf, fin, binary64, up, down, of_bits, to_bits, fits, lt, to_unsigned}
 use lib.Ieee.Fits.{down_pos}
 use lib.Ieee.Exact.{HasValue}
 use lib.Ieee.Positive.{above}
@@ -23,12 +23,6 @@ unfolding of_bits
 two_to_64_is = refl
 
 -- ---- values above zero
-pub no_nan : (x : Float) → T (above x) → T (not (lib.Ieee.is_nan x))
-unfolding lib.Ieee.is_nan
-no_nan nan a = absurd a
-no_nan (inf s) a = tt
-no_nan (fin s m e) a = tt
-
 pub over_minus_one : (x : Float) → T (above x) → T (lt (fin true 1 (pos 0)) x)
 unfolding lt
 over_minus_one nan a = absurd a

@@ -6,7 +6,7 @@ use Prim.Native.Nat.{compare}
 use native.Mathlib.Nat.{add-mod_left, mul-add-mod_self_left, div-div-eq-div-mul, pow-succ'}
 use lib.Dec.{not_T}
 use lib.Arith.{digits_lt, digits_div, digits_mod, lt→nleb, le→nltb}
-use lib.Ieee.{Float, nan, inf, fin, Format, binary32, binary64, prec, emax, low, up, down, size, odd, units, round, fits, is_nan, hid, ones, top, of_fields, of_bits, to_bits}
+use lib.Ieee.{Float, nan, inf, fin, Format, prec, emax, low, size, odd, units, round, is_nan, hid, ones, top, of_fields, of_bits}
 use lib.Ieee.Digits.{size-lt, size-le, size_reaches}
 use lib.Ieee.Fits.{two, reach, odd-fits, eq→eqb, nearest-le, round_is}
 use lib.Ieee.Bits.{is_true, is_false, cond_no, of_bits-fits}

@@ -2,18 +2,11 @@
 use Rattle.std.proofs.Common.{◌≡◌, ℕ, ◌*◌, ◌/◌, ◌%◌, ◌^◌, ◌<◌, ◌≤◌, Bool, true, false, cond, not, T, eqb, leb, sym, refl, ap, ◌∙◌, subst, arith, leb→le}
 use lib.Dec.{nleb→lt}
 use lib.Pow.{field}
-use lib.Ieee.{Float, nan, inf, fin, binary64, fits, is_nan, of_fields, to_bits, ne}
+use lib.Ieee.{Float, nan, inf, binary64, fits, is_nan, of_fields, to_bits}
 use lib.Ieee.Bits.{of_bits-to_bits, to_bits-lt}
 use lib.Ieee.Exact.{HasValue}
 use Rattle.ieee.specs.Patterns.{lead, expo}
 use Rattle.ieee.proofs.Pack.{of_bits_is, fields_val, fields_top}
-
--- a value that equals itself is no NaN
-pub equals_itself : (x : Float) → ne x x ≡ false → T (not (is_nan x))
-unfolding ne is_nan
-equals_itself nan h = absurd (mathlib.Core.Bool.true≢false h)
-equals_itself (inf s) h = tt
-equals_itself (fin s m e) h = tt
 
 -- the sign as a number
 pub sign_is : (b j : ℕ) → b < 2 ^ 64 → b / 2 ^ 63 * j ≡ cond (leb (2 ^ 63) b) j 0

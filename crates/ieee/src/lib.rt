@@ -1,9 +1,9 @@
 // Float operations of Rust, each total and equal to one definition.
 #![tactic(auto)]
 
-ghost use Rattle.std.specs.Prelude.{◌≡◌, ◌+◌, ◌^◌, ◌<◌, ◌≤◌};
+ghost use Rattle.std.specs.Prelude.{◌≡◌, ◌^◌, ◌<◌, ◌≤◌};
 ghost use Rattle.std.specs.Float.Ieee as Ieee;
-ghost use Rattle.std.specs.Float.{binary32, binary64};
+ghost use Rattle.std.specs.Float.{binary64};
 ghost use Rattle.std.specs.Float.Ieee.Nearest.{closest};
 ghost use Rattle.ieee.specs.Casts.{ceil_unsigned, round_away, narrow, maximum};
 ghost use Rattle.ieee.specs.Casts.{clamp as Casts·clamp};
@@ -16,9 +16,9 @@ pub fn to_u64(x: f64) -> u64
     ensures { result ≡ Ieee.to_unsigned 64 x }
 {
     if x >= 1.0 {
-        let bits: u64 = f64::to_bits(x);
-        let exponent: u64 = bits >> 52;
-        let digits: u64 = (bits & 0xf_ffff_ffff_ffff) | 0x10_0000_0000_0000;
+        let bits = x.to_bits();
+        let exponent = bits >> 52;
+        let digits = (bits & 0xf_ffff_ffff_ffff) | 0x10_0000_0000_0000;
         if exponent <= 1054 {
             ((digits >> 21) << (exponent - 1023)) >> 31
         } else if exponent <= 1075 {
@@ -26,7 +26,7 @@ pub fn to_u64(x: f64) -> u64
         } else if x < 18446744073709551616.0 {
             std::num::truncating_f64_to_u64(x)
         } else {
-            18446744073709551615
+            u64::MAX
         }
     } else {
         0
@@ -46,9 +46,9 @@ pub fn to_i64(x: f64) -> i64
 pub fn ceil_to_u64(x: f64) -> u64
     ensures { result ≡ ceil_unsigned 64 x }
 {
-    let t: u64 = to_u64(x);
-    if t < 9007199254740992 {
-        let y: f64 = t as f64;
+    let t = to_u64(x);
+    if t < 1 << 53 {
+        let y = t as f64;
         if y < x { t + 1 } else { t }
     } else {
         t
@@ -60,7 +60,7 @@ pub fn nearest_shift(w: u64, sh: u64) -> u64
     requires { (1 ≤ sh) × (sh < 64) × (w < 2 ^ 63) }
     ensures { result ≡ closest w (2 ^ sh) }
 {
-    let half: u64 = 1 << (sh - 1);
+    let half = 1 << (sh - 1);
     (w + (half - 1) + ((w >> sh) & 1)) >> sh
 }
 

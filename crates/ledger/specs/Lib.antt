@@ -2,3 +2,4 @@
 pub mod Entry
 pub mod Ledger
 pub mod Back
+pub mod Literals

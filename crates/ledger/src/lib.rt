@@ -1,35 +1,36 @@
 // The card of a session: its end as the fields of a ledger card.
 #![tactic(auto)]
 
-ghost use Rattle.std.specs.Prelude.{◌≡◌};
-ghost use Rattle.ledger.specs.Ledger.{index_at, slant_index, card_by, session_card};
+ghost use Rattle.std.specs.Prelude.{◌≡◌, ◌&&◌, cond, ltb};
+ghost use Rattle.std.specs.Float.Ieee.{eq};
+ghost use Rattle.hough.specs.Pass.{angle_of};
+ghost use Rattle.ledger.specs.Ledger.{slant_index, card_by, session_card};
 
-use card::Card;
-use limits::Refusal;
+use card::{ANGLES, Card, NO_SLANT};
+use limits::{Ending, Refusal};
 use plain::{End, Reading};
 use session::Session;
 
-// q where it is the index of the angle, else 254, which no card may hold.
-fn index_at(q: u64, angle: f64) -> u8
-    ensures { result ≡ index_at q angle }
+// Stands for an angle that is none of the 240. No card may hold it.
+const NO_ANGLE: u8 = 254;
+
+// q, where it is the index of the angle.
+#[tactic(auto, unfolding(hough::specs::Pass::angle_of, ieee::specs::Numbers::decimal, crate::specs::Literals::of_bits, crate::specs::Literals::of_int))]
+fn index_at(q: u64, angle: f64) -> Option<u8>
+    ensures { result ≡ cond (ltb q 240 && eq (angle_of q) angle) (Some q) None }
 {
-    if q >= 240 {
-        return 254;
-    }
-    if 30.0 + (q as f64) * 0.5 == angle {
-        q as u8
-    } else {
-        254
-    }
+    let q = u8::try_from(q).ok()?;
+    (q < ANGLES && 30.0 + f64::from(q) * 0.5 == angle).then_some(q)
 }
 
-// The index of the slant's angle, 255 for none.
+// The index of the slant's angle.
+#[tactic(auto, unfolding(crate::specs::Ledger::slant_index, crate::specs::Literals::of_bits, crate::specs::Literals::of_int))]
 fn slant_index(slant: Option<f64>) -> u8
     ensures { result ≡ slant_index slant }
 {
     match slant {
-        None => 255,
-        Some(angle) => index_at(ieee::to_u64((angle - 30.0) * 2.0), angle),
+        None => NO_SLANT,
+        Some(angle) => { index_at(ieee::to_u64((angle - 30.0) * 2.0), angle).unwrap_or(NO_ANGLE) }
     }
 }
 
@@ -39,13 +40,13 @@ pub fn card_of(mode: u8, reading: Reading) -> Card
 {
     let unfound = Card {
         mode,
-        end: 1,
+        end: Ending::Unfound.number(),
         taken: reading.taken as u64,
         evaluations: reading.evaluations as u64,
         start: 0,
         start_quality: 0.0,
         rate: 0.0,
-        slant: 255,
+        slant: NO_SLANT,
         skip: 0,
         quality: 0.0,
     };
@@ -59,7 +60,7 @@ pub fn card_of(mode: u8, reading: Reading) -> Card
             skip,
             quality,
         } => Card {
-            end: 0,
+            end: Ending::Reported.number(),
             start,
             start_quality,
             rate,
@@ -74,7 +75,7 @@ pub fn card_of(mode: u8, reading: Reading) -> Card
             windows: _,
             start_quality,
         } => Card {
-            end: 2,
+            end: Ending::CutShort.number(),
             start,
             start_quality,
             ..unfound

@@ -15,7 +15,8 @@ pub const SAMPLE_MARK: f32 = 2.0;
 
 const WORK_MARK: u8 = 1;
 
-// How many places of each memory there are, or are lent to a call.
+// How many places of each memory there are, or are lent to a call. No `session_parts::Lengths`, which has these four too: this crate
+// stands below the session.
 #[derive(Clone, Copy)]
 pub struct Sizes {
     pub store: usize,
@@ -117,8 +118,7 @@ pub fn is_kept<T: PartialEq>(memory: &[T], at: usize, piece: &[T], mark: &T) -> 
     if at > memory.len() {
         return false;
     }
-    match memory[at..].strip_prefix(piece) {
-        Some(rest) => rest.first().is_none_or(|x| x == mark),
-        None => false,
-    }
+    memory[at..]
+        .strip_prefix(piece)
+        .is_some_and(|rest| rest.first().is_none_or(|x| x == mark))
 }

@@ -1,5 +1,5 @@
 // The piece of a recorded feed: its sizes, which stand in the halves of a word, and what it holds.
-ghost use Rattle.std.specs.Prelude.{◌≡◌, ◌/◌, ◌%◌, ◌^◌, IfOk, vec_len};
+ghost use Rattle.std.specs.Prelude.{◌≡◌, ◌/◌, ◌%◌, ◌^◌, IfOk};
 ghost use Rattle.lent_memory.specs.Pieces.{IsAsLong};
 
 use replay::payload::{self, Payload};

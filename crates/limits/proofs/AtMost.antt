@@ -2,24 +2,14 @@
 use mathlib.Core.Path.{◌≡◌, refl, ap, ◌∙◌}
 use mathlib.Core.Bool.{Bool, true, false, false≢true, ◌&&◌}
 use mathlib.Core.List.{List, [], ◌∷◌, ◌++◌}
-use Prim.Native.Nat.{ℕ, zero, suc, ◌+◌, ◌≤◌, ◌<◌, zero-le, max}
+use Prim.Native.Nat.{ℕ, zero, suc, ◌≤◌, zero-le, max}
 use native.Mathlib.Omega.{arith}
-use native.Mathlib.Numerals.{add-one}
 use lib.ListN.{length, get_or, drop, drop_of_length-le}
 use lib.Dec.{leb}
 use Rattle.std.specs.List.{fold, list_all}
-use lib.Seq.{drop-cons}
 use Rattle.std.proofs.lemmas.Bool.Decides.{nat_tests}
-use borrow.Author.Tests.{le-leb, lt-leb, leb-true}
+use borrow.Author.Tests.{le-leb, leb-true}
 use Rattle.limits.specs.Ranges.{all_at_most}
-
-pub at_most_passed : (n : ℕ) (xs : List ℕ) (i : ℕ) → i < length xs → get_or xs i 0 ≤ n → all_at_most n (drop (i + 1) xs) ≡ all_at_most n (drop i xs)
-unfolding all_at_most
-at_most_passed n xs i l h = rw (add-one, drop-cons xs i 0 l, le-leb (get_or xs i 0) n h)
-
-pub at_most_failed : (n : ℕ) (xs : List ℕ) (i : ℕ) → i < length xs → n < get_or xs i 0 → false ≡ all_at_most n (drop i xs)
-unfolding all_at_most
-at_most_failed n xs i l h = rw (drop-cons xs i 0 l, lt-leb (get_or xs i 0) n h)
 
 pub at_most_end : (n : ℕ) (xs : List ℕ) (i : ℕ) → length xs ≤ i → true ≡ all_at_most n (drop i xs)
 unfolding all_at_most

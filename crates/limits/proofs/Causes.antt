@@ -4,7 +4,7 @@ use mathlib.Core.Bool.{Bool, true, false, true≢false, cond, ◌||◌}
 use Rattle.std.specs.Prelude.{◌<◌, Result, Ok, Err}
 use Rattle.limits.specs.declared.Refusal.{Refusal}
 use Rattle.limits.specs.declared.Refusal.TheVariants as why
-use Rattle.limits.specs.Refusals.{number_of, or_else, is_allowed}
+use Rattle.limits.specs.Refusals.{number_of, is_allowed}
 use native.Mathlib.Omega.{arith}
 
 -- a cause that did not refuse does not apply
@@ -22,17 +22,7 @@ pub or_right : (a b : Bool) → a || b ≡ false → b ≡ false
 or_right true b e = absurd (true≢false e)
 or_right false b e = e
 
--- ---- of two the first that refuses
-
-pub or_else_first : (a b : Result Unit Refusal) (e : Refusal) → a ≡ Err e → or_else a b ≡ Err e
-or_else_first a b e h = rw h refl
-
-pub or_else_next : (a b : Result Unit Refusal) → a ≡ Ok tt → or_else a b ≡ b
-or_else_next a b h = rw h refl
-
-pub or_else_none : (a b : Result Unit Refusal) → or_else a b ≡ Ok tt → (a ≡ Ok tt) × (b ≡ Ok tt)
-or_else_none (Ok tt) b h = (refl, h)
-or_else_none (Err e) b h = cc
+-- ---- an answer that is no refusal
 
 pub allowed_is_ok : (r : Result Unit Refusal) → is_allowed r ≡ true → r ≡ Ok tt
 allowed_is_ok (Ok tt) h = refl

@@ -20,6 +20,11 @@ number_of why.CardLength = 12
 number_of why.CardMark = 13
 number_of why.CardField = 14
 
+-- the refusal's number, 0 for none
+abbrev pub number_or_zero : Result Unit Refusal → ℕ
+number_or_zero (Ok u) = 0
+number_or_zero (Err e) = number_of e
+
 -- a condition, and what a call is refused for where it applies
 pub record Cause : Type 0 where
   pub applies : Bool

@@ -1,9 +1,13 @@
-// Sizes of lent memory, limits of numbers, and the tests of flags and samples that several calls make before they take anything.
+// Refusals and endings by name, sizes of lent memory, limits of numbers, and the tests of flags and samples that several calls make before they take anything.
 #![tactic(auto)]
+
+mod ending;
 
 ghost use Rattle.std.specs.Prelude.{◌≡◌};
 ghost use Rattle.limits.specs.Ranges.{all_at_most, unsound, any_unsound};
-ghost use Rattle.limits.specs.Refusals.{number_of};
+ghost use Rattle.limits.specs.Refusals.{number_of, number_or_zero};
+
+pub use ending::Ending;
 
 // Why a call is refused. The numbers are the exported calls' answers, of which the lowest that applies is given.
 #[derive(Clone, Copy, Debug, PartialEq, Eq)]
@@ -46,6 +50,16 @@ impl Refusal {
     }
 }
 
+// A refusal's number, 0 for none: the answer of a C call that gives nothing else.
+pub fn number_or_zero(answer: Result<(), Refusal>) -> u32
+    ensures { result ≡ number_or_zero answer }
+{
+    match answer {
+        Ok(()) => 0,
+        Err(refusal) => u32::from(refusal.number()),
+    }
+}
+
 // The most flags of a store or a list.
 pub const MAX_FLAGS: usize = 16777216;
 
@@ -60,14 +74,17 @@ pub const WORKING_SAMPLE_RATE_HZ: f64 = 11025.0;
 // 2^62, the largest anchor and centre: a position added to it stays a 64-bit number.
 pub const MAX_ANCHOR: u64 = 4611686018427387904;
 
-// Whether no flag is above the limit. It goes on to the end, so that LLVM takes the largest of many flags at a time.
+// Whether no flag is above the limit. It goes on to the end, so that LLVM takes the largest of many flags at a time. For bytes
+// alone: a clause can't say `all_at_most` at a type parameter, and `pulse` tests its counts by a line of `all`.
 pub fn all_at_most(limit: u8, flags: &[u8]) -> bool
     ensures { result ≡ all_at_most limit flags.now }
 {
     flags.iter().fold(0, |most, flag| most.max(*flag)) <= limit
 }
 
-// Whether a sample is not finite or beyond 1. A NaN fails both comparisons.
+// Whether a sample is not finite or beyond 1. A NaN fails both comparisons. By comparisons, since `contains` would want the laws of the
+// order of floats, which stand in `ieee` (proofs/Compare), and no crate stands below this one.
+#[tactic(auto, using(crate::proofs::Samples::sound_low, crate::proofs::Samples::sound_mid, crate::proofs::Samples::sound_high), unfolding(crate::specs::Literals::of_bits, crate::specs::Literals::neg))]
 fn unsound(x: f32) -> bool
     ensures { result ≡ unsound x }
 {

@@ -12,9 +12,6 @@ use modespec::ModeSpec;
 // The samples of a tone, 4.5 ms.
 const TONE_SAMPLES: usize = 49;
 
-// `f64::EPSILON`
-const EPSILON: f64 = f64::from_bits(0x3cb0_0000_0000_0000);
-
 // Seconds from a line's start to its tone.
 fn separator_seconds(spec: ModeSpec) -> f64
     ensures { result ≡ Parity.separator_of spec }
@@ -37,12 +34,7 @@ fn tone_at(spec: ModeSpec, start: f64, k: usize) -> f64
 fn is_known(n: usize, from: f64) -> bool
     ensures { result ≡ Parity.tone_known n from }
 {
-    if from >= 0.0 {
-        if TONE_SAMPLES <= n {
-            return ieee::to_u64(from) as usize <= n - TONE_SAMPLES;
-        }
-    }
-    false
+    from >= 0.0 && n >= TONE_SAMPLES && ieee::to_u64(from) as usize <= n - TONE_SAMPLES
 }
 
 // How far a tone leans to that of odd lines.
@@ -51,7 +43,7 @@ fn lean(tone: &[f32]) -> f64
 {
     let even_power = dsp::goertzel_power(tone, Tone::Hz1500);
     let odd_power = dsp::goertzel_power(tone, Tone::Hz2300);
-    (odd_power - even_power) / (odd_power + even_power + EPSILON)
+    (odd_power - even_power) / (odd_power + even_power + f64::EPSILON)
 }
 
 fn tone_lean(samples: &[f32], from: f64) -> f64
@@ -87,7 +79,8 @@ fn vote_on(spec: ModeSpec, samples: &[f32], start: f64, k: usize, vote: f64) -> 
     }
 }
 
-// Whether the line that starts at sample `start` is odd: its tone and those of the lines behind it vote.
+// Whether the line that starts at sample `start` is odd: its tone and those of the lines behind it vote. The bound on the row's lines is
+// a clause: a ghost field of a row would be asked of whoever makes one.
 pub fn first_line_is_odd(mode: u8, spec: ModeSpec, samples: &[f32], start: f64) -> bool
     requires { Sizes.window_lines spec ≤ 65536 }
     ensures { result ≡ Parity.odd_line mode spec samples.now start }

@@ -5,8 +5,8 @@
 ghost use Rattle.std.specs.Prelude.{◌≡◌, ◌^◌, ◌<◌};
 ghost use Rattle.modespec.specs.ModeSpec.{spec_of};
 ghost use Rattle.modespec.specs.Mode.{mode_number, Numbered};
-ghost use Rattle.modespec.specs.Sizes as Sizes;
-ghost use Rattle.modespec.specs.Calls.{columns_of};
+ghost use Rattle.modespec.specs.Sizes as size;
+ghost use Rattle.modespec.specs.Calls.{columns_of, sizes_of};
 
 use limits::Refusal;
 
@@ -47,9 +47,10 @@ pub enum SyncPosition {
     Scottie,
 }
 
-// Mode timing and layout. `mode` is the mode's number in the order of `SstvMode`.
+// Mode timing and layout.
 #[derive(Clone, Copy)]
 pub struct ModeSpec {
+    // The number in the order of `SstvMode`, which document 01 adds to a row. Nothing here reads it; a `Mode` would ask more of a caller.
     pub mode: u8,
     pub line_pixels: u32,
     pub image_lines: u32,
@@ -317,7 +318,8 @@ impl Mode {
     }
 }
 
-// The row of a mode's number. A number above 15 gets the last row.
+// The row of a mode's number. A number above 15 gets the last row. A mode is its number here and in the crates above: a record may hold
+// any, and to take a `Mode` would tighten what is asked of a caller.
 pub fn for_mode(mode: u8) -> ModeSpec
     ensures { result ≡ spec_of mode }
 {
@@ -328,13 +330,12 @@ impl ModeSpec {
     // Radio lines per image, each starting with one sync pulse. PD packs two image rows into each.
     #[tactic(auto, unfolding(crate::specs::Sizes::radio_lines))]
     pub fn radio_lines(self) -> u32
-        ensures { result ≡ Sizes.radio_lines self }
+        ensures { result ≡ size.radio_lines self }
     {
         match self.channel_layout {
             ChannelLayout::PdYcbcr => self.image_lines / 2,
-            ChannelLayout::RobotYuv => self.image_lines,
-            ChannelLayout::RgbSequential => self.image_lines,
-            ChannelLayout::Monochrome => self.image_lines,
+            ChannelLayout::RobotYuv | ChannelLayout::RgbSequential | ChannelLayout::Monochrome =>
+                self.image_lines,
         }
     }
 
@@ -342,7 +343,7 @@ impl ModeSpec {
     // Scottie sits inside the line: half a channel back, two porches on.
     #[tactic(auto, unfolding(crate::specs::Sizes::skip_correction, crate::specs::Sizes::scottie_correction, crate::specs::Literals::of_bits))]
     pub fn skip_correction_seconds(self) -> f64
-        ensures { result ≡ Sizes.skip_correction self }
+        ensures { result ≡ size.skip_correction self }
     {
         match self.sync_position {
             SyncPosition::LineStart => 0.0,
@@ -356,7 +357,7 @@ impl ModeSpec {
 
 // Robot 24 and 36 mark by a tone which lines are odd: the start search asks the tone, and a session keeps the samples that it reads.
 pub fn has_parity_tone(mode: u8) -> bool
-    ensures { result ≡ Sizes.robot mode }
+    ensures { result ≡ size.robot mode }
 {
     matches!(Mode::try_from(mode), Ok(Mode::Robot24 | Mode::Robot36))
 }
@@ -364,7 +365,7 @@ pub fn has_parity_tone(mode: u8) -> bool
 // Seconds from a line's start to its sync pulse: the inverse of `find_sync`'s skip.
 #[tactic(auto, unfolding(crate::specs::Sizes::pulse_offset, crate::specs::Literals::of_bits))]
 pub fn pulse_offset_seconds(spec: ModeSpec) -> f64
-    ensures { result ≡ Sizes.pulse_offset spec }
+    ensures { result ≡ size.pulse_offset spec }
 {
     match spec.sync_position {
         SyncPosition::LineStart => 0.0,
@@ -375,7 +376,7 @@ pub fn pulse_offset_seconds(spec: ModeSpec) -> f64
 // Lines folded in one evaluation of the start search.
 #[tactic(auto, unfolding(crate::specs::Sizes::window_lines, crate::specs::Literals::of_bits))]
 pub fn window_lines(spec: ModeSpec) -> usize
-    ensures { result ≡ Sizes.window_lines spec }
+    ensures { result ≡ size.window_lines spec }
 {
     let for_seconds: usize = ieee::ceil_to_u64(MIN_WINDOW_SECONDS / spec.line_seconds) as usize;
     MIN_WINDOW_LINES.max(for_seconds)
@@ -384,7 +385,7 @@ pub fn window_lines(spec: ModeSpec) -> usize
 // Samples of a line at the working rate.
 #[tactic(auto, unfolding(crate::specs::Sizes::line_samples, crate::specs::Literals::of_bits))]
 pub fn line_samples(spec: ModeSpec) -> f64
-    ensures { result ≡ Sizes.line_samples spec }
+    ensures { result ≡ size.line_samples spec }
 {
     spec.line_seconds * limits::WORKING_SAMPLE_RATE_HZ
 }
@@ -392,17 +393,19 @@ pub fn line_samples(spec: ModeSpec) -> f64
 // w: the flags of one evaluation's window. The Rust's + 1 must not wrap.
 #[tactic(auto, unfolding(crate::specs::Sizes::window_probes, crate::specs::Literals::of_bits))]
 fn window_probes(spec: ModeSpec) -> usize
-    requires { Sizes.window_probes spec < 2 ^ 64 }
-    ensures { result ≡ Sizes.window_probes spec }
+    requires { size.window_probes spec < 2 ^ 64 }
+    ensures { result ≡ size.window_probes spec }
 {
+    // By name: `as` asks that the number is a float, which a caller's row doesn't promise.
     let lines: f64 = std::num::nearest_u64_to_f64(window_lines(spec) as u64);
     let samples: f64 = lines * line_samples(spec);
     ieee::ceil_to_u64(samples / SYNC_PROBE_STRIDE) as usize + 1
 }
 
 // w for a mode's number. The rows of all modes meet what `window_probes` requires.
+#[tactic(auto, using(crate::proofs::Rows::window_probes_fit))]
 pub fn mode_window_probes(mode: u8) -> usize
-    ensures { result ≡ Sizes.window_probes (spec_of mode) }
+    ensures { result ≡ size.window_probes (spec_of mode) }
 {
     window_probes(for_mode(mode))
 }
@@ -410,16 +413,35 @@ pub fn mode_window_probes(mode: u8) -> usize
 // P: the flags of a whole picture, at `find_sync`'s starting rate.
 #[tactic(auto, unfolding(crate::specs::Sizes::image_probes, crate::specs::Literals::of_bits))]
 pub fn image_probes(spec: ModeSpec, initial_rate_hz: f64) -> usize
-    ensures { result ≡ Sizes.image_probes spec initial_rate_hz }
+    ensures { result ≡ size.image_probes spec initial_rate_hz }
 {
     let lines: f64 = spec.radio_lines() as f64;
     ieee::ceil_to_u64(lines * spec.line_seconds * initial_rate_hz / SYNC_PROBE_STRIDE) as usize
 }
 
+// The flags of a mode's window and of its picture, from which a host makes its stores.
+#[derive(Clone, Copy)]
+pub struct Sizes {
+    pub window: usize,
+    pub picture: usize,
+}
+
+// w and P at the working rate, for a mode's number. Refuses a mode above 15 with 1.
+#[tactic(auto, using(crate::proofs::Rows::window_probes_fit), unfolding(crate::specs::Calls::sizes_of, crate::specs::Literals::of_bits, crate::specs::Literals::of_int))]
+pub fn mode_sizes(mode: u8) -> Result<Sizes, Refusal>
+    ensures { result ≡ sizes_of mode }
+{
+    let spec = Mode::try_from(mode)?.spec();
+    Ok(Sizes {
+        window: window_probes(spec),
+        picture: image_probes(spec, limits::WORKING_SAMPLE_RATE_HZ),
+    })
+}
+
 // W: the columns that a line is drawn on, four to a sync pulse.
 #[tactic(auto, unfolding(crate::specs::Sizes::line_width, crate::specs::Literals::of_bits))]
 pub fn line_width(spec: ModeSpec) -> usize
-    ensures { result ≡ Sizes.line_width spec }
+    ensures { result ≡ size.line_width spec }
 {
     let width: usize = ieee::to_u64((spec.line_seconds / spec.sync_seconds) * 4.0) as usize;
     width.max(1)
@@ -428,8 +450,9 @@ pub fn line_width(spec: ModeSpec) -> usize
 // Columns that a sync pulse spans among n columns of a line: at least 1, and at most n where n is not 0.
 #[tactic(auto, unfolding(crate::specs::Sizes::pulse_columns, crate::specs::Literals::of_bits))]
 pub fn pulse_columns(spec: ModeSpec, n: usize) -> usize
-    ensures { result ≡ Sizes.pulse_columns spec n }
+    ensures { result ≡ size.pulse_columns spec n }
 {
+    // By name: `as` asks that the number is a float, and n may be any.
     let share: f64 = (spec.sync_seconds / spec.line_seconds)
         * std::num::nearest_u64_to_f64(n as u64);
     let most: f64 = std::num::nearest_u64_to_f64(n.max(1) as u64);

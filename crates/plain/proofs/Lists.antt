@@ -37,10 +37,6 @@ pub same_events : (p : Plain) → Same p (events p)
 unfolding evaluating reporting ending
 same_events p = grind arith
 
-pub step_ended : (p : Plain) (x : ℕ) (four : List Float) → ended_phase p.phase ≡ true → step p x four ≡ p
-unfolding step
-step_ended p x four e = rw e
-
 pub step_live : (p : Plain) (x : ℕ) (four : List Float) → ended_phase p.phase ≡ false → step p x four ≡ events (joined p (x ∷ []) four)
 unfolding step
 step_live p x four e = rw e

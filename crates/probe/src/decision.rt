@@ -1,8 +1,11 @@
-// The decision on a transformed window: does the sync tone stand out?
+// The decision on a transformed window: is the sync tone above twice the mean?
 ghost use Rattle.std.specs.Prelude.{◌≡◌, ◌+◌, ◌-◌, ◌≤◌, ◌<◌, length};
 ghost use Rattle.probe.specs.Decision.{low_bin, high_bin, sync_bin, bin_power, powers_of, mean_of, triangle_of, has_sync};
 
 // ---- the bins under a shift
+
+// The last bin that has a neighbour in the spectrum.
+const LAST_BIN: usize = 127;
 
 fn low_bin(shift: f64) -> usize
     ensures { result ≡ low_bin shift }
@@ -13,13 +16,13 @@ fn low_bin(shift: f64) -> usize
 fn high_bin(shift: f64) -> usize
     ensures { result ≡ high_bin shift }
 {
-    dsp::get_bin(2300.0 + shift).min(127)
+    dsp::get_bin(2300.0 + shift).min(LAST_BIN)
 }
 
 fn sync_bin(shift: f64) -> usize
     ensures { result ≡ sync_bin shift }
 {
-    dsp::get_bin(1200.0 + shift).max(1).min(127)
+    dsp::get_bin(1200.0 + shift).clamp(1, LAST_BIN)
 }
 
 // ---- the powers
@@ -45,9 +48,9 @@ impl Spectrum<'_> {
         requires { (lo ≤ hi) × (hi ≤ 127) }
         ensures { result ≡ powers_of self.now.numbers.now lo (hi + 1 - lo) }
     {
-        let mut p_raw: f64 = 0.0;
-        for k in lo..hi + 1 {
-            p_raw = p_raw + self.bin_power(k);
+        let mut p_raw = 0.0;
+        for k in lo..=hi {
+            p_raw += self.bin_power(k);
         }
         p_raw
     }
@@ -60,8 +63,8 @@ impl Spectrum<'_> {
         if hi < lo {
             return 0.0;
         }
-        let p_raw: f64 = self.video_power(lo, hi);
-        let divisor: usize = (hi - lo).max(1);
+        let p_raw = self.video_power(lo, hi);
+        let divisor = (hi - lo).max(1);
         p_raw / (divisor as f64)
     }
 
@@ -70,9 +73,9 @@ impl Spectrum<'_> {
         requires { (0 < bin) × (bin ≤ 127) }
         ensures { result ≡ triangle_of self.now.numbers.now bin }
     {
-        let below: f64 = self.bin_power(bin - 1);
-        let at: f64 = self.bin_power(bin);
-        let above: f64 = self.bin_power(bin + 1);
+        let below = self.bin_power(bin - 1);
+        let at = self.bin_power(bin);
+        let above = self.bin_power(bin + 1);
         (0.0 + below * 0.5 + at * 1.0 + above * 0.5) / 2.0
     }
 }
@@ -82,7 +85,7 @@ pub fn has_sync(spectrum: &[f32], shift: f64) -> bool
     ensures { result ≡ has_sync spectrum.now shift }
 {
     let spectrum = Spectrum { numbers: spectrum };
-    let p_raw: f64 = spectrum.video_mean(low_bin(shift), high_bin(shift));
-    let p_sync: f64 = spectrum.sync_power(sync_bin(shift));
+    let p_raw = spectrum.video_mean(low_bin(shift), high_bin(shift));
+    let p_sync = spectrum.sync_power(sync_bin(shift));
     p_sync > 2.0 * p_raw
 }

@@ -31,6 +31,7 @@ fn all_finite(spectrum: &[f32]) -> bool
 // Fills the buffer with 256 pairs, real and imaginary part in turn: 16 samples around the centre times the window's weights,
 // and 0 where the sound has not begun or has ended and everywhere else.
 // Refuses a centre above 2^62, a buffer that is not 512 numbers, a sample that is not finite or beyond 1.
+// Sound, centre and buffer are three arguments, as the C call has them: what a struct would hold of them is what is tested here.
 pub fn sync_window(sound: &[f32], centre: u64, buffer: &mut [f32]) -> Result<(), Refusal>
     ensures { Windowed sound.now centre buffer.old result buffer.new }
 {
@@ -43,7 +44,7 @@ pub fn sync_window(sound: &[f32], centre: u64, buffer: &mut [f32]) -> Result<(),
     if limits::any_unsound(sound) {
         return Err(Refusal::Sample);
     }
-    let weights: [f32; 16] = dsp::hann_16();
+    let weights = dsp::hann_16();
     window::fill(sound, centre, &weights, buffer);
     Ok(())
 }

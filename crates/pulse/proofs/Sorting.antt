@@ -8,6 +8,8 @@ use native.Mathlib.Omega.{arith}
 use lib.ListN.{length, get_or}
 use lib.Dec.{T, leb, leb→le, nleb→lt}
 use borrow.Author.Tests.{le-leb, lt-leb}
+use Rattle.std.specs.List.{sum_by}
+use Rattle.std.proofs.lemmas.List.Recursion.{is_sum_by}
 use Rattle.pulse.specs.Median.{insert, sorted, median_of, count_at_most}
 
 -- 1 for a number that is at most v
@@ -35,7 +37,12 @@ one_le v x = go (leb x v)
     go true = omega arith
     go false = omega arith
 
-count_length : (v : ℕ) (xs : List ℕ) → count_at_most v xs ≤ length xs
+-- the count as a sum
+pub count_sum : (v : ℕ) (xs : List ℕ) → count_at_most v xs ≡ sum_by (one v) xs
+unfolding count_at_most
+count_sum v = is_sum_by (count_at_most v) (one v) refl (λ x xs. refl)
+
+pub count_length : (v : ℕ) (xs : List ℕ) → count_at_most v xs ≤ length xs
 unfolding count_at_most
 count_length v [] = omega arith
 count_length v (x ∷ xs) = omega (arith, one_le v x, count_length v xs)

@@ -2,7 +2,7 @@
 use mathlib.Core.Path.{◌≡◌, refl, ap, sym, ◌∙◌}
 use mathlib.Core.List.{List}
 use Prim.Native.Nat.{ℕ, zero, suc, ◌+◌, ◌-◌, ◌*◌, ◌%◌, ◌^◌, ◌≤◌, ◌<◌}
-use native.Mathlib.Nat.{mod-eq_of_lt, mod-eq-sub-mod}
+use native.Mathlib.Nat.{mod-eq_of_lt}
 use native.Mathlib.Numerals.{add-one}
 use native.Mathlib.Omega.{arith}
 use lib.ListN.{length, get_or, take, drop, length-drop}
@@ -58,9 +58,6 @@ sum_taken xs s (suc n) h =
     (sum_by_push (λ x. x) (take n (drop s xs)) (get_or xs (s + n) 0) ∙ ap (λ (k : ℕ). k + get_or xs (s + n) 0) (sum_taken xs s n (omega arith)))
 
 -- ---- the ring
-
-pub wraps : (i n : ℕ) → n ≤ i → i < n + n → i - n ≡ i % n
-wraps i n a b = let h : i - n < n = omega arith in sym (mod-eq-sub-mod a ∙ mod-eq_of_lt h)
 
 -- a window that does not go round
 pub window_straight : (counts : List ℕ) (width : ℕ) → width ≤ length counts → sum_from (λ k. get_or counts k 0) 0 width ≡ window_sum counts width 0

@@ -29,12 +29,9 @@ fn counts_of(case: &Case, alloc: Global) -> Result<Vec<u32>, AllocError> {
 }
 
 fn window_is_right(case: &Case, counts: &[u32]) -> bool {
-    match pulse::best_pulse_window(counts, case.a as usize) {
-        Ok(best) => {
-            best.start as u64 == case.x && best.sum == case.y && best.windows as u64 == case.z
-        }
-        Err(_) => false,
-    }
+    pulse::best_pulse_window(counts, case.a as usize).is_ok_and(|best| {
+        best.start as u64 == case.x && best.sum == case.y && best.windows as u64 == case.z
+    })
 }
 
 fn quality_is_right(case: &Case, counts: &[u32]) -> bool {

@@ -1,2 +1,4 @@
 -- Lemmas.
+mod Counting
 mod Filling
+mod Runs

@@ -1,12 +1,13 @@
 // Reading vector files, with which test programs compare a function's answers with the Rust's. A short
 // record is five words: the operation, three operands, and the answer. A long record is eight words, of
 // which the last says how many bytes follow, and these bytes. A word has eight bytes, the least first.
+// The operation is a number in the file, so that a program has one `match` on it, of which each arm is one call.
 #![tactic(auto)]
 
 pub mod payload;
 pub mod tally;
 
-ghost use Rattle.std.specs.Prelude.{◌≡◌, ◌+◌, ◌≤◌, length, take, ◌<◌, IfOk, OnOk, vec_len};
+ghost use Rattle.std.specs.Prelude.{◌≡◌, ◌≤◌, length, take, ◌<◌, IfOk, vec_len};
 ghost use Rattle.std.specs.Io.KnownBytes.{Consumes, IsAtEnd};
 ghost use Rattle.replay.specs.Reading.{IsWordRead};
 ghost use Rattle.replay.specs.Optional.{optional_of, has_bits_or_none};
@@ -173,21 +174,22 @@ pub fn run<T: Record, R: Files + Print + Eprint, F: FnMut(T) -> io::Result<Verdi
     let Some(file) = opened(rt, "vectors") else {
         return Ok(());
     };
-    let mut tally = Tally::new();
+    let mut tally = Tally::of(kinds, alloc)?;
     each_record(file, alloc, &mut tally, answer)?;
-    tally.report(rt, kinds)
+    tally.report(rt)
 }
 
 // Replays a file's records, and tallies what `answer` says of each. A record that the file does not hold whole is wrong, and the last.
 pub fn each_record<T: Record, F: FnMut(T) -> io::Result<Verdict>>(
     file: impl Read + Drop,
     alloc: Global,
-    tally: &mut Tally,
+    tally: &mut Tally<'_>,
     mut answer: F,
 ) -> io::Result<()>
     requires { F.IsAlwaysCallable answer }
 {
     let mut file = BufReader::new(alloc, file)?;
+    // a count and no `while let`, the library's own form for a reader that may not end: no file has 2^64 records
     for _ in 0..u64::MAX {
         match next_record(&mut file, alloc) {
             Ok(Some(record)) => tally.count(answer(record)?),
@@ -214,7 +216,7 @@ pub fn next_record<T: Record, R: Read>(file: &mut R, alloc: Global) -> Result<Op
 pub fn optional(word: u64) -> Option<u64>
     ensures { result ≡ optional_of word }
 {
-    if word == u64::MAX { None } else { Some(word) }
+    (word != u64::MAX).then_some(word)
 }
 
 // Whether an optional float is the one recorded.
@@ -278,7 +280,7 @@ mod tests {
 
     #[test]
     fn records_are_tallied(rt: HostRuntime) -> Result<(), Fail> {
-        let mut tally = Tally::new();
+        let mut tally = Tally::of(&[""; 12], rt.alloc())?;
         each_record(SHORT.as_slice(), rt.alloc(), &mut tally, |record: Vector| {
             Ok(Verdict {
                 kind: record.op,
@@ -286,7 +288,10 @@ mod tests {
             })
         })?;
         assert_eq!(rt; (tally.seen, tally.wrong), (3, 2));
-        assert_eq!(rt; tally.kinds, [0, 0, 1, 1, 0, 0, 0, 0, 0, 0, 0, 0]);
+        assert_eq!(rt; tally.kinds.len(), 12);
+        for (kind, n) in tally.kinds.iter().zip([0, 0, 1, 1, 0, 0, 0, 0, 0, 0, 0, 0]) {
+            assert_eq!(rt; kind.1, n);
+        }
         Ok(())
     }
 }

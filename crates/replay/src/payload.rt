@@ -1,9 +1,10 @@
 // The lists of a long record's payload, in half words.
-ghost use Rattle.std.specs.Prelude.{◌≡◌, ◌/◌, ◌≤◌, ◌++◌, ℕ, min, length, IfOk, vec_len, map, drop};
+ghost use Rattle.std.specs.Prelude.{◌≡◌, ◌-◌, ◌/◌, ◌≤◌, ◌++◌, ℕ, min, length, IfOk, OnOk, vec_len, map, drop, replicate};
 ghost use Rattle.std.specs.Float.Ieee as Ieee;
 ghost use Rattle.std.specs.Float.{binary32};
 ghost use Rattle.words.specs.Words.{half_word_at};
 ghost use Rattle.replay.specs.Each.{each};
+ghost use Rattle.replay.specs.Flags.{flags_within};
 ghost use Rattle.replay.specs.Taking.{first_or_zero, all_or_none};
 
 use std::alloc::{AllocError, Global};
@@ -33,7 +34,8 @@ impl HalfWord for f32 {
     }
 }
 
-// Puts what the half words of `bytes` stand for into `out`, as many as both have, and answers how many.
+// Puts what the half words of `bytes` stand for into `out`, as many as both have, and answers how many. It can't fail, as a list can,
+// so it stays beside `half_word_list`.
 pub fn half_words<T: HalfWord>(bytes: &[u8], out: &mut [T]) -> usize
     ensures value { result ≡ min (length bytes.now / 4) (length out.old) }
     ensures out_after { out.new ≡ each (λ k. T.of (half_word_at bytes.now k)) result ++ drop result out.old }
@@ -72,20 +74,22 @@ pub fn repeat<T: Copy>(
     most: usize,
 ) -> Result<(), AllocError>
     requires { vec_len list.old ≤ most }
-    ensures { vec_len list.new ≤ most }
+    ensures within { vec_len list.new ≤ most }
+    ensures items { OnOk result (list.new.items ≡ list.old.items ++ replicate (min (most - vec_len list.old) times) value) }
 {
     let n = list.len();
     list.resize(n + (most - n).min(times as usize), value)
 }
 
 // Puts flags into `out` from their run lengths, half words, of which the first counts zeros, the next ones, and so on. Answers how
-// many flags there are, at most as many as `out` has places.
+// many flags there are, at most as many as `out` has places. It can't fail, as a list can, so it stays beside `flag_list`.
 pub fn flags(runs: &[u8], out: &mut [u8]) -> usize
     ensures { result ≤ length out.old }
 {
     let mut at = 0;
-    for i in 0..runs.len() / 4 {
-        let run = words::half_word(runs, 4 * i) as usize;
+    let (runs, _) = runs.as_chunks();
+    for (i, run) in runs.iter().enumerate() {
+        let run = u32::from_le_bytes(*run) as usize;
         let end = at + run.min(out.len() - at);
         out[at..end].fill((i % 2) as u8);
         at = end;
@@ -94,8 +98,10 @@ pub fn flags(runs: &[u8], out: &mut [u8]) -> usize
 }
 
 // The same as a list, from half words: at most so many flags.
+#[tactic(auto, using(crate::proofs::Runs::no_flags, crate::proofs::Runs::flags_more))]
 pub fn flag_list(runs: &[u32], most: usize, alloc: Global) -> Result<Vec<u8>, AllocError>
-    ensures { IfOk result (λ v. vec_len v ≤ most) }
+    ensures within { IfOk result (λ v. vec_len v ≤ most) }
+    ensures items { IfOk result (λ v. v.items ≡ flags_within most runs.now) }
 {
     let mut flags = Vec::new(alloc);
     for (i, run) in runs.iter().enumerate() {
@@ -147,7 +153,9 @@ impl<'a> Payload<'a> {
 
     // Flags: how many runs there are, and the runs.
     pub fn flags(&mut self, most: usize, alloc: Global) -> Result<Vec<u8>, AllocError>
-        ensures { IfOk result (λ v. vec_len v ≤ most) }
+        ensures within { IfOk result (λ v. vec_len v ≤ most) }
+        ensures items { IfOk result (λ v. v.items ≡ flags_within most (all_or_none (first_or_zero self.old.rest.now) (drop 1 self.old.rest.now))) }
+        ensures rest { self.new.rest.now ≡ drop (first_or_zero self.old.rest.now) (drop 1 self.old.rest.now) }
     {
         let n = self.number() as usize;
         flag_list(self.numbers(n), most, alloc)

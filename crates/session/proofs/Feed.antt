@@ -41,11 +41,6 @@ module _ (s : Session) (st : List ℕ) (sm : List Float) (im vo fl : List ℕ) (
   abbrev refusal_of : Result Unit Refusal
   refusal_of = feed_refusal (setup_of s) s.phase (lengths (length st) (length sm) (length im) (length vo)) fl ys
 
-  -- the refusal is that of any plain session that is held
-  refusal_plain : (p : Plain) → Holds p s st sm → feed_refusal p.setup p.phase (lengths (length st) (length sm) (length im) (length vo)) fl ys ≡ refusal_of
-  refusal_plain p h =
-      ap (λ (q : Plain). feed_refusal q.setup q.phase (lengths (length st) (length sm) (length im) (length vo)) fl ys) (sym h.same)
-
   -- a record that no session handed back
   pub feed_strange : refusal_of ≡ Ok tt → ended_phase s.phase ≡ false → (Sane s → ⊥) → FeedMeets s st sm im vo fl ys (Ok (record { taken = 0; session = s })) st sm im vo
   feed_strange none live strange =

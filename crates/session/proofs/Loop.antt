@@ -3,10 +3,11 @@
 use mathlib.Core.Path.{◌≡◌, refl, sym, ◌∙◌, ap, ap₂, subst}
 use mathlib.Core.Bool.{true, false}
 use mathlib.Core.List.{List, [], ◌++◌, append_assoc, append-nil}
-use Prim.Native.Nat.{ℕ, ◌+◌, ◌*◌, ◌≤◌, ◌<◌}
+use Prim.Native.Nat.{ℕ, ◌+◌, ◌-◌, ◌*◌, ◌≤◌, ◌<◌}
 use native.Mathlib.Omega.{arith}
-use lib.ListN.{length, take, drop, take-append-drop}
-use lib.Seq.{length-take-le, paste, paste-zero, length-paste, take-add}
+use lib.ListN.{length, take, drop, length-drop, take-append-drop}
+use Rattle.std.proofs.lemmas.List.{drop-drop}
+use lib.Seq.{length-take-le, paste, paste-zero, length-paste, take-add, take_all}
 use lib.Ieee.{Float}
 use Rattle.modespec.specs.Sizes.{robot}
 use Rattle.plain.specs.Plain.{Plain, ended_phase, through}
@@ -45,6 +46,35 @@ pub record Part
   pub sampled : sm ≡ kept_at s₀.mode (4 * s₀.taken + 4) ys (4 * i) sm₀
   pub image : im ≡ work_after s.phase 441000 im₀
   pub counts : vo ≡ work_after s.phase 144000 vo₀
+
+-- what is left of the piece, as many flags as it is shorter after those taken
+pub record Left (fl : List ℕ) (ys : List Float) (fl' : List ℕ) (ys' : List Float) : Type 0 where
+  pub flags : fl' ≡ drop (length fl - length fl') fl
+  pub samples : ys' ≡ drop (4 * (length fl - length fl')) ys
+
+-- the whole piece is left
+pub left_all : (fl : List ℕ) (ys : List Float) → Left fl ys fl ys
+left_all fl ys = let e : length fl - length fl ≡ 0 = omega arith in record { flags = rw e; samples = rw e }
+
+module _ (fl : List ℕ) (ys : List Float) (fl' : List ℕ) (ys' : List Float) (h : Left fl ys fl' ys') where
+  pub left_fits : length fl' ≤ length fl
+  left_fits = let e : length fl' ≡ length fl - (length fl - length fl') = ap length h.flags ∙ length-drop (length fl - length fl') fl in omega arith
+
+  -- n flags less are left
+  module _ (n : ℕ) (le : n ≤ length fl') (fl₂ : List ℕ) (ys₂ : List Float) (f : fl₂ ≡ drop n fl') (y : ys₂ ≡ drop (4 * n) ys') where
+    pub left_place : length fl - length fl₂ ≡ length fl - length fl' + n
+    left_place =
+        let fits = left_fits in
+        let e : length fl₂ ≡ length fl' - n = ap length f ∙ length-drop n fl' in
+        omega arith
+
+    pub left_more : Left fl ys fl₂ ys₂
+    left_more =
+        let four : 4 * (length fl - length fl' + n) ≡ 4 * (length fl - length fl') + 4 * n = omega arith in
+        record {
+          flags = rw left_place (f ∙ ap (drop n) h.flags ∙ drop-drop n (length fl - length fl') fl);
+          samples = rw (left_place, four) (y ∙ ap (drop (4 * n)) h.samples ∙ drop-drop (4 * n) (4 * (length fl - length fl')) ys);
+        }
 
 -- ---- the length of the flag store
 
@@ -189,3 +219,9 @@ module _
       sym (through_ended q (drop i fl) (drop (4 * i) ys) over)
       ∙ sym (through_append p (take i fl) (drop i fl) (take (4 * i) ys) (drop (4 * i) ys) (omega arith))
       ∙ ap₂ (λ (f : List ℕ) (y : List Float). through p f y) (take-append-drop i fl) (take-append-drop (4 * i) ys))
+
+  -- nothing is left of the piece
+  pub ran_all : length fl ≤ i → Ran s₀ st₀ sm₀ im₀ vo₀ fl ys i s st sm im vo
+  ran_all le =
+      let four = h.given.four in
+      ran (λ known _. ap₂ (λ (f : List ℕ) (y : List Float). through (plain_of s₀ st₀ known) f y) (take_all i fl le) (take_all (4 * i) ys (omega arith)))

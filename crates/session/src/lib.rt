@@ -1,7 +1,7 @@
 // The session: a record by value over stores and work memory that the caller lends. Each method takes it and hands the advanced record back.
 #![tactic(auto)]
 
-ghost use Rattle.std.specs.Prelude.{◌≡◌, true, false, ◌+◌, ◌*◌, ◌≤◌, ◌<◌, length};
+ghost use Rattle.std.specs.Prelude.{◌≡◌, true, false, ◌+◌, ◌*◌, ◌≤◌, ◌<◌, length, take, drop};
 ghost use Rattle.modespec.specs.Sizes.{robot};
 ghost use Rattle.plain.specs.declared.Phase.TheVariants as Phase;
 ghost use Rattle.plain.specs.Plain.{ended_phase};
@@ -9,6 +9,7 @@ ghost use Rattle.session.specs.Hold.{Sane, OpenMeets, FeedMeets, ReadMeets};
 ghost use Rattle.session.specs.Steps.{Gap, Judged, Finished, Closed, Turned, SaneTest, Ran};
 
 use limits::Refusal;
+use modespec::Mode;
 use plain::{End, Phase, Reading};
 use session_parts::refusals::Lengths;
 use session_parts::{phases, refusals, stores};
@@ -33,7 +34,35 @@ pub struct Fed {
     pub session: Session,
 }
 
-// A session at its opening. A Robot 24 or 36 sample store gets the first four samples, and no other buffer is written.
+// Flags with their samples, four to a flag.
+#[derive(Clone, Copy)]
+struct Piece<'a> {
+    flags: &'a [u8],
+    samples: &'a [f32],
+    ghost paired: { length samples.now ≡ 4 * length flags.now },
+}
+
+impl<'a> Piece<'a> {
+    // The first flags with their samples, and those that are left.
+    fn split_at(self, mid: usize) -> (Piece<'a>, Piece<'a>)
+        requires { mid ≤ length self.flags.now }
+        ensures front { (result.0.flags.now ≡ take mid self.entry.flags.now) × (result.0.samples.now ≡ take (4 * mid) self.entry.samples.now) }
+        ensures back { (result.1.flags.now ≡ drop mid self.entry.flags.now) × (result.1.samples.now ≡ drop (4 * mid) self.entry.samples.now) }
+    {
+        let (flags, flags_left) = self.flags.split_at(mid);
+        let (samples, samples_left) = self.samples.split_at(4 * mid);
+        (
+            Piece { flags, samples },
+            Piece {
+                flags: flags_left,
+                samples: samples_left,
+            },
+        )
+    }
+}
+
+// A session at its opening. A Robot 24 or 36 sample store gets the first four samples, and no other buffer is written. Anchor, first and
+// mode stand one by one, as document 01 lists them.
 pub fn open(
     mode: u8,
     anchor: u64,
@@ -79,11 +108,12 @@ impl Session {
         }
     }
 
-    // The evaluation of a searching session, where one is due.
+    // The evaluation of a searching session, where one is due. Bounds on one number stand as clauses, since a struct of one number
+    // would be opened at each sum.
     fn evaluate(self, store: &[u8], audio: &[f32]) -> Session
         requires mode_bound { self.mode ≤ 15 }
         requires taken_in_bounds { (self.taken ≤ length store.now) × (self.taken ≤ 16777216) }
-        requires taken_in_bounds_2 { robot self.mode ≡ true → 4 * self.taken + 4 ≤ length audio.now }
+        requires samples_known { robot self.mode ≡ true → 4 * self.taken + 4 ≤ length audio.now }
         requires evaluations_lt_taken { (self.evaluations < self.taken) × (self.streak ≤ self.evaluations) }
         ensures { Judged self store.now audio.now result }
     {
@@ -116,8 +146,8 @@ impl Session {
 
     // The report of a collecting session, where it is due.
     fn finish(self, store: &[u8], img: &mut [u8], votes: &mut [u16]) -> Session
-        requires taken_in_bounds { (self.taken ≤ length store.now) × (self.taken ≤ 16777216) }
-        requires in_bounds { (441000 ≤ length img.old) × (144000 ≤ length votes.old) }
+        requires taken_in_bounds { self.taken ≤ length store.now }
+        requires work_memory_fits { (441000 ≤ length img.old) × (144000 ≤ length votes.old) }
         ensures { Finished self store.now img.old votes.old result img.new votes.new }
     {
         let Phase::Collecting(start) = self.phase else {
@@ -157,27 +187,26 @@ impl Session {
 
     // A chunk that ends at the next event or before it: stored, then asked in order for evaluation, report and end.
     // The four buffers stay apart: the C interface lends them so, and each step lends on only those that it uses.
+    // A struct of `img` and `votes` was tried: what its two lists hold after a call did not prove.
     fn turn(
         self,
         store: &mut [u8],
         audio: &mut [f32],
         img: &mut [u8],
         votes: &mut [u16],
-        flags: &[u8],
-        samples: &[f32],
+        piece: Piece,
     ) -> Session
         requires sane { Sane self }
-        requires phase_value { ended_phase self.phase ≡ false }
-        requires capacity_value { self.capacity ≡ length store.old }
-        requires capacity_in_bounds { robot self.mode ≡ true → 4 * self.capacity + 4 ≤ length audio.old }
-        requires in_bounds { (441000 ≤ length img.old) × (144000 ≤ length votes.old) }
-        requires flags_nonzero { (0 < length flags.now) × (self.taken + length flags.now ≤ length store.old) }
-        requires samples_len { length samples.now ≡ 4 * length flags.now }
-        ensures { Turned self store.old audio.old img.old votes.old flags.now samples.now result store.new audio.new img.new votes.new }
+        requires live { ended_phase self.phase ≡ false }
+        requires store_is_capacity { self.capacity ≡ length store.old }
+        requires samples_fit { robot self.mode ≡ true → 4 * self.capacity + 4 ≤ length audio.old }
+        requires work_memory_fits { (441000 ≤ length img.old) × (144000 ≤ length votes.old) }
+        requires piece_fits { (0 < length piece.flags.now) × (self.taken + length piece.flags.now ≤ length store.old) }
+        ensures { Turned self store.old audio.old img.old votes.old piece.entry.flags.now piece.entry.samples.now result store.new audio.new img.new votes.new }
     {
-        let taken = self.taken + flags.len();
-        stores::write(&mut store[self.taken..], flags);
-        stores::keep_samples(self.mode, 4 * self.taken + 4, audio, samples);
+        let taken = self.taken + piece.flags.len();
+        stores::write(&mut store[self.taken..], piece.flags);
+        stores::keep_samples(self.mode, 4 * self.taken + 4, audio, piece.samples);
         let added = Session { taken, ..self };
         let judged = added.evaluate(store, audio);
         let finished = judged.finish(store, img, votes);
@@ -185,16 +214,16 @@ impl Session {
     }
 
     // Whether the record keeps the bounds that every session keeps.
-    fn sane(self) -> bool
+    fn is_sane(self) -> bool
         ensures { SaneTest self result }
     {
-        self.mode <= 15
+        Mode::try_from(self.mode).is_ok()
             && self.anchor <= limits::MAX_ANCHOR
             && self.taken < self.capacity
             && self.capacity <= limits::MAX_FLAGS
             && self.evaluations <= self.taken
             && self.streak <= self.evaluations as u64
-            && phases::position(self.phase) <= limits::MAX_ANCHOR
+            && phases::start(self.phase).is_none_or(|start| start.position <= limits::MAX_ANCHOR)
     }
 
     // The chunks of a piece, until the piece or the session ends.
@@ -204,33 +233,28 @@ impl Session {
         audio: &mut [f32],
         img: &mut [u8],
         votes: &mut [u16],
-        flags: &[u8],
-        samples: &[f32],
+        piece: Piece,
     ) -> Fed
         requires sane { Sane self }
-        requires phase_value { ended_phase self.phase ≡ false }
-        requires capacity_value { self.capacity ≡ length store.old }
-        requires capacity_in_bounds { robot self.mode ≡ true → 4 * self.capacity + 4 ≤ length audio.old }
-        requires in_bounds { (441000 ≤ length img.old) × (144000 ≤ length votes.old) }
-        requires flags_len_bound { (length flags.now ≤ 16777216) × (length samples.now ≡ 4 * length flags.now) }
-        ensures { Ran self store.old audio.old img.old votes.old flags.now samples.now result.taken result.session store.new audio.new img.new votes.new }
+        requires live { ended_phase self.phase ≡ false }
+        requires store_is_capacity { self.capacity ≡ length store.old }
+        requires samples_fit { robot self.mode ≡ true → 4 * self.capacity + 4 ≤ length audio.old }
+        requires work_memory_fits { (441000 ≤ length img.old) × (144000 ≤ length votes.old) }
+        requires piece_bounded { length piece.flags.now ≤ 16777216 }
+        ensures { Ran self store.old audio.old img.old votes.old piece.entry.flags.now piece.entry.samples.now result.taken result.session store.new audio.new img.new votes.new }
     {
         let mut session = self;
-        let mut taken = 0;
+        let mut left = piece;
         // No `for`: a step is as long as the way to the next event.
-        while taken < flags.len() && !phases::ended(session.phase) {
-            let end = taken + session.gap().min(flags.len() - taken);
-            session = session.turn(
-                store,
-                audio,
-                img,
-                votes,
-                &flags[taken..end],
-                &samples[4 * taken..4 * end],
-            );
-            taken = end;
+        while !left.flags.is_empty() && !phases::ended(session.phase) {
+            let (chunk, rest) = left.split_at(session.gap().min(left.flags.len()));
+            session = session.turn(store, audio, img, votes, chunk);
+            left = rest;
         }
-        Fed { taken, session }
+        Fed {
+            taken: piece.flags.len() - left.flags.len(),
+            session,
+        }
     }
 
     // Takes flags with their samples until the piece or the session ends, and says how many.
@@ -250,22 +274,22 @@ impl Session {
             self.capacity,
             self.phase,
             Lengths {
-                flags: store.len(),
-                samples: audio.len(),
+                store: store.len(),
+                audio: audio.len(),
                 img: img.len(),
                 votes: votes.len(),
             },
             flags,
             samples,
         )?;
-        if !self.sane() {
+        if !self.is_sane() {
             // No session handed this record back.
             return Ok(Fed {
                 taken: 0,
                 session: self,
             });
         }
-        Ok(self.run(store, audio, img, votes, flags, samples))
+        Ok(self.run(store, audio, img, votes, Piece { flags, samples }))
     }
 
     // How the session ended.

@@ -6,15 +6,14 @@ mod session_card;
 
 use lent_memory::pieces::{self, Piece};
 use lent_memory::{FLAG_MARK, Memory, SAMPLE_MARK, Sizes, Sums};
-use limits::Refusal;
-use plain::Phase;
+use limits::{Ending, Refusal};
 use replay::Case;
 use session::Session;
 
-// A session that is replayed, and the memory that its calls are lent.
+// The session that is replayed, if one is open, and the memory that its calls are lent.
 #[derive(Drop)]
 pub struct Replayed {
-    pub session: Session,
+    pub session: Option<Session>,
     pub memory: Memory,
 }
 
@@ -23,7 +22,8 @@ fn is_recorded(refusal: Refusal, x: u64) -> bool {
     u64::from(refusal.number()) == x
 }
 
-// The sample store after an opening: Robot 24 and 36 keep the first four samples.
+// Whether the sample store is as an opening leaves it: of Robot 24 and 36 it begins with the first four samples, of any other mode it is
+// as it was.
 fn has_begun(mode: u8, audio: &[f32], first: &[f32], before: f64) -> bool {
     if modespec::has_parity_tone(mode) {
         audio.starts_with(first)
@@ -58,18 +58,12 @@ fn is_unchanged(memory: &Memory, lent: Sizes, before: Option<Sums>) -> bool {
 }
 
 impl Replayed {
-    // What stands for a session before the first is open takes nothing.
+    // No session is open yet.
     pub fn new(memory: Memory) -> Replayed {
-        let session = Session {
-            mode: 0,
-            anchor: 0,
-            capacity: 0,
-            taken: 0,
-            evaluations: 0,
-            streak: 0,
-            phase: Phase::Unfound,
-        };
-        Replayed { session, memory }
+        Replayed {
+            session: None,
+            memory,
+        }
     }
 
     // Whether an opening is right: in mode a, with anchor b, over stores of the lengths c, and with these first samples.
@@ -78,13 +72,16 @@ impl Replayed {
         if store > self.memory.store.len() || audio > self.memory.audio.len() {
             return false;
         }
+        // a number above 15 is to be refused, and no call can be given one above 255
+        let Ok(mode) = u8::try_from(case.a) else {
+            return false;
+        };
         let store = &self.memory.store[..store];
         let audio = &mut self.memory.audio[..audio];
-        let mode = u8::try_from(case.a).unwrap_or(u8::MAX);
         let before = lent_memory::sum_of_samples(audio);
         match session::open(mode, case.b, store, audio, first) {
             Ok(session) => {
-                self.session = session;
+                self.session = Some(session);
                 case.x == 0 && has_begun(mode, audio, first, before)
             }
             Err(refusal) => {
@@ -93,8 +90,11 @@ impl Replayed {
         }
     }
 
-    // Whether a feed is right: it keeps what it takes, or changes nothing where it is refused.
+    // Whether a feed is right: it keeps what it takes, or changes nothing where it is refused. One before an opening is wrong.
     pub fn feed(&mut self, case: &Case, piece: &Piece) -> bool {
+        let Some(session) = self.session else {
+            return false;
+        };
         let (store, audio) = pieces::halves(case.b);
         let (img, votes) = pieces::halves(case.c);
         let lent = Sizes {
@@ -106,13 +106,8 @@ impl Replayed {
         if !self.memory.has(lent) {
             return false;
         }
-        let refused = case.x != 0;
-        let before = if refused {
-            Some(self.memory.sums(lent))
-        } else {
-            None
-        };
-        let session = self.session;
+        // the sums of a call that is to be refused
+        let before = (case.x != 0).then(|| self.memory.sums(lent));
         let answer = session.feed(
             &mut self.memory.store[..store],
             &mut self.memory.audio[..audio],
@@ -123,8 +118,8 @@ impl Replayed {
         );
         match answer {
             Ok(fed) => {
-                self.session = fed.session;
-                !refused
+                self.session = Some(fed.session);
+                before.is_none()
                     && fed.taken as u64 == case.y
                     && has_kept(session, &self.memory, lent, piece, fed.taken)
             }
@@ -134,16 +129,20 @@ impl Replayed {
         }
     }
 
-    // Whether a read is right, and the session's card with it. A report has cleared the work memory, and nothing else writes it.
+    // Whether a read is right, and the session's card with it. A report has cleared the work memory, and nothing else writes it. A
+    // read before an opening is wrong.
     pub fn read(&self, case: &Case) -> bool {
-        let right = match self.session.read() {
+        let Some(session) = self.session else {
+            return false;
+        };
+        let right = match session.read() {
             Ok(reading) => {
                 case.x == 0
                     && reading::is_right(reading, case.y, &case.payload)
-                    && self.memory.work_is(case.y == 0)
+                    && self.memory.work_is(case.y == Ending::Reported as u64)
             }
             Err(refusal) => is_recorded(refusal, case.x) && self.memory.work_is(false),
         };
-        right && session_card::is_right(self.session, case)
+        right && session_card::is_right(session, case)
     }
 }

@@ -1,26 +1,28 @@
 // What a read gives, against the nine words of a record's payload.
+use limits::Ending;
 use plain::{End, Reading};
 use replay::Pattern;
 
-// Word k of a reading's nine.
-fn word(words: &[u8], k: usize) -> u64 {
-    if k < words.len() / 8 {
-        replay::word(words, 8 * k)
-    } else {
-        0
+// The nine words, 0 for those that a payload does not hold.
+fn words_of(payload: &[u8]) -> [u64; 9] {
+    let mut words = [0; 9];
+    let (eights, _) = payload.as_chunks();
+    for (word, bytes) in words.iter_mut().zip(eights) {
+        *word = u64::from_le_bytes(*bytes);
     }
+    words
 }
 
-fn float_is(words: &[u8], k: usize, x: f32) -> bool {
-    x.has_pattern(replay::low_half(word(words, k)))
+fn float_is(x: f32, word: u64) -> bool {
+    x.has_pattern(replay::low_half(word))
 }
 
-// Whether the words from number k on are 0, as they are of what an end lacks.
-fn no_more(words: &[u8], k: usize) -> bool {
-    (k..9).all(|i| word(words, i) == 0)
+// Whether words are 0, as they are of what an end lacks.
+fn are_none(words: &[u64]) -> bool {
+    words.iter().all(|word| *word == 0)
 }
 
-fn end_is(end: End, y: u64, words: &[u8]) -> bool {
+fn end_is(end: End, y: u64, words: &[u64; 9]) -> bool {
     match end {
         End::Reported {
             start,
@@ -31,33 +33,34 @@ fn end_is(end: End, y: u64, words: &[u8]) -> bool {
             skip,
             quality,
         } => {
-            y == 0
-                && start == word(words, 2)
-                && u64::from(windows) == word(words, 3)
-                && float_is(words, 4, start_quality)
-                && rate.has_pattern(word(words, 5))
-                && replay::is_recorded(slant, word(words, 6))
-                && replay::signed_bits(skip) == word(words, 7)
-                && float_is(words, 8, quality)
+            y == Ending::Reported as u64
+                && start == words[2]
+                && u64::from(windows) == words[3]
+                && float_is(start_quality, words[4])
+                && rate.has_pattern(words[5])
+                && replay::is_recorded(slant, words[6])
+                && replay::signed_bits(skip) == words[7]
+                && float_is(quality, words[8])
         }
-        End::Unfound => y == 1 && no_more(words, 2),
+        End::Unfound => y == Ending::Unfound as u64 && are_none(&words[2..]),
         End::CutShort {
             start,
             windows,
             start_quality,
         } => {
-            y == 2
-                && start == word(words, 2)
-                && u64::from(windows) == word(words, 3)
-                && float_is(words, 4, start_quality)
-                && no_more(words, 5)
+            y == Ending::CutShort as u64
+                && start == words[2]
+                && u64::from(windows) == words[3]
+                && float_is(start_quality, words[4])
+                && are_none(&words[5..])
         }
     }
 }
 
 // Whether a reading is the one that the payload has.
-pub fn is_right(reading: Reading, y: u64, words: &[u8]) -> bool {
-    (reading.taken as u64) == word(words, 0)
-        && (reading.evaluations as u64) == word(words, 1)
-        && end_is(reading.end, y, words)
+pub fn is_right(reading: Reading, y: u64, payload: &[u8]) -> bool {
+    let words = words_of(payload);
+    reading.taken as u64 == words[0]
+        && reading.evaluations as u64 == words[1]
+        && end_is(reading.end, y, &words)
 }

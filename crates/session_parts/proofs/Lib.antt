@@ -1,3 +1,4 @@
--- Laws that the proofs of the parts' functions and of the session's cite.
+-- Laws of the parts, which the proofs of their functions and of the session's cite.
 pub mod Lists
 pub mod Kept
+pub mod Starts

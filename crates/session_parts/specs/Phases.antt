@@ -1,10 +1,19 @@
 -- Phases and the sizes that decide when they change (01-scope.md, "Session", "Start search"). Definitions only.
-use Rattle.std.specs.Prelude.{◌≡◌, ℕ, ◌+◌, ◌%◌, ◌^◌, ◌<◌, ◌≤◌, false}
+use Rattle.std.specs.Prelude.{◌≡◌, ℕ, ◌+◌, ◌%◌, ◌^◌, ◌<◌, ◌≤◌, false, Option, None, Some}
 use Rattle.plain.specs.declared.Start.{Start}
 use Rattle.plain.specs.declared.Phase.{Phase}
 use Rattle.plain.specs.declared.Phase.TheVariants.{Searching, Collecting, Reported, Unfound, CutShort}
 use Rattle.plain.specs.Plain.{due_at, window_of, picture_of}
 
+-- the start that a phase has
+abbrev pub start_in : Phase → Option Start
+start_in Searching = None
+start_in (Collecting s) = Some s
+start_in (Reported s r) = Some s
+start_in Unfound = None
+start_in (CutShort s) = Some s
+
+-- its position, 0 where there is none
 abbrev pub position_of : Phase → ℕ
 position_of Searching = 0
 position_of (Collecting s) = s.position

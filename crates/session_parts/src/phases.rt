@@ -1,8 +1,9 @@
 // Phases and the sizes that decide when they change.
+// Functions, since a method stands in its type's crate, and `plain` holds no code.
 ghost use Rattle.std.specs.Prelude.{◌≡◌};
 ghost use Rattle.plain.specs.declared.End.TheVariants as End;
 ghost use Rattle.plain.specs.Plain.{ended_phase, end_of, found_phase, flag_of, full_at};
-ghost use Rattle.session_parts.specs.Phases.{position_of, start_of, WindowIs, PictureIs, DueIn};
+ghost use Rattle.session_parts.specs.Phases.{start_in, start_of, WindowIs, PictureIs, DueIn};
 
 use plain::{End, Phase, Start};
 use sync::SyncResult;
@@ -28,14 +29,14 @@ pub fn end_of(phase: Phase) -> Phase
     }
 }
 
-// The position of the start, 0 where there is none.
-pub fn position(phase: Phase) -> u64
-    ensures { result ≡ position_of phase }
+// The start that a phase has.
+pub fn start(phase: Phase) -> Option<Start>
+    ensures { result ≡ start_in phase }
 {
     match phase {
-        Phase::Searching | Phase::Unfound => 0,
+        Phase::Searching | Phase::Unfound => None,
         Phase::Collecting(start) | Phase::Reported(start, _) | Phase::CutShort(start) => {
-            start.position
+            Some(start)
         }
     }
 }
@@ -63,6 +64,7 @@ pub fn window(mode: u8) -> usize
 }
 
 // P: the flags of a picture.
+#[tactic(auto, using(plain::proofs::Sizes::picture_small), unfolding(plain::specs::Plain::picture_of, modespec::specs::Literals::of_bits, modespec::specs::Literals::of_int))]
 pub fn picture(mode: u8) -> usize
     ensures { PictureIs mode result }
 {

@@ -1,26 +1,29 @@
 // Why calls are refused: the first cause that applies, in the order of their numbers.
-ghost use Rattle.std.specs.Prelude.{◌≡◌, ℕ, length};
+ghost use Rattle.std.specs.Prelude.{◌≡◌, ℕ};
 ghost use Rattle.plain.specs.Calls.{short_samples, open_refusal, memory_refusal, sound_refusal, feed_refusal};
 ghost use Rattle.session_parts.specs.Refusals.{setup, lengths};
 
 use crate::phases;
 use limits::Refusal;
+use modespec::Mode;
 use plain::Phase;
 
 // How long the stores and the work memory are that a caller lends.
 #[derive(Clone, Copy)]
 pub struct Lengths {
-    pub flags: usize,
-    pub samples: usize,
+    pub store: usize,
+    pub audio: usize,
     pub img: usize,
     pub votes: usize,
 }
 
+// Mode and F go in one by one: the record keeps them apart, as document 01 lists `open`'s arguments.
+
 // Whether a Robot 24 or 36 sample store is below 4F + 4.
-pub fn short_samples(mode: u8, capacity: usize, samples: usize) -> bool
-    ensures { result ≡ short_samples mode capacity samples }
+pub fn short_samples(mode: u8, capacity: usize, audio: usize) -> bool
+    ensures { result ≡ short_samples mode capacity audio }
 {
-    modespec::has_parity_tone(mode) && samples / 4 <= capacity
+    modespec::has_parity_tone(mode) && audio / 4 <= capacity
 }
 
 #[tactic(auto, unfolding(plain::specs::Calls::open_refusal))]
@@ -28,24 +31,19 @@ pub fn open_refusal(
     mode: u8,
     anchor: u64,
     capacity: usize,
-    samples: usize,
+    audio: usize,
     first: &[f32],
 ) -> Result<(), Refusal>
-    ensures { result ≡ open_refusal (setup mode anchor capacity) samples first.now }
+    ensures { result ≡ open_refusal (setup mode anchor capacity) audio first.now }
 {
-    if mode > 15 {
-        return Err(Refusal::Mode);
-    }
+    Mode::try_from(mode)?;
     if anchor > limits::MAX_ANCHOR {
         return Err(Refusal::Anchor);
     }
-    if capacity < phases::window(mode) + phases::picture(mode) {
-        return Err(Refusal::Memory);
-    }
-    if capacity > limits::MAX_FLAGS {
-        return Err(Refusal::Memory);
-    }
-    if short_samples(mode, capacity, samples) {
+    if capacity < phases::window(mode) + phases::picture(mode)
+        || capacity > limits::MAX_FLAGS
+        || short_samples(mode, capacity, audio)
+    {
         return Err(Refusal::Memory);
     }
     if first.len() != 4 {
@@ -60,18 +58,13 @@ pub fn open_refusal(
 // The part of a feed's refusal that the lender of the memory answers for.
 #[tactic(auto, unfolding(plain::specs::Calls::memory_refusal))]
 pub fn memory_refusal(mode: u8, capacity: usize, lent: Lengths) -> Result<(), Refusal>
-    ensures { result ≡ memory_refusal mode capacity (lengths lent.flags lent.samples lent.img lent.votes) }
+    ensures { result ≡ memory_refusal mode capacity (lengths lent.store lent.audio lent.img lent.votes) }
 {
-    if lent.flags != capacity {
-        return Err(Refusal::Memory);
-    }
-    if short_samples(mode, capacity, lent.samples) {
-        return Err(Refusal::Memory);
-    }
-    if lent.img < limits::IMG_BYTES {
-        return Err(Refusal::Memory);
-    }
-    if lent.votes < limits::VOTE_CELLS {
+    if lent.store != capacity
+        || short_samples(mode, capacity, lent.audio)
+        || lent.img < limits::IMG_BYTES
+        || lent.votes < limits::VOTE_CELLS
+    {
         return Err(Refusal::Memory);
     }
     Ok(())
@@ -82,10 +75,7 @@ pub fn memory_refusal(mode: u8, capacity: usize, lent: Lengths) -> Result<(), Re
 pub fn sound_refusal(flags: &[u8], samples: &[f32]) -> Result<(), Refusal>
     ensures { result ≡ sound_refusal flags.now samples.now }
 {
-    if flags.len() > limits::MAX_FLAGS {
-        return Err(Refusal::Length);
-    }
-    if samples.len() != 4 * flags.len() {
+    if flags.len() > limits::MAX_FLAGS || samples.len() != 4 * flags.len() {
         return Err(Refusal::Length);
     }
     if !limits::all_at_most(1, flags) {
@@ -107,7 +97,7 @@ pub fn feed_refusal(
     flags: &[u8],
     samples: &[f32],
 ) -> Result<(), Refusal>
-    ensures { (anchor : ℕ) → result ≡ feed_refusal (setup mode anchor capacity) phase (lengths lent.flags lent.samples lent.img lent.votes) flags.now samples.now }
+    ensures { (anchor : ℕ) → result ≡ feed_refusal (setup mode anchor capacity) phase (lengths lent.store lent.audio lent.img lent.votes) flags.now samples.now }
 {
     memory_refusal(mode, capacity, lent)?;
     sound_refusal(flags, samples)?;

@@ -21,7 +21,7 @@ pub fn keep_samples(mode: u8, at: usize, audio: &mut [f32], piece: &[f32])
     }
 }
 
-// How many samples of the store an evaluation is lent.
+// How many samples of the store an evaluation is lent. The bound on one number keeps `4 * taken + 4` within a word.
 pub fn known(mode: u8, taken: usize) -> usize
     requires { taken ≤ 16777216 }
     ensures { result ≡ (if robot mode then 4 * taken + 4 else 0) }

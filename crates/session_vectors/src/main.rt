@@ -19,49 +19,58 @@ use std::io;
 const MOST: Sizes = Sizes {
     store: 773825,
     audio: 452065,
-    img: 441000,
-    votes: 144000,
+    img: limits::IMG_BYTES,
+    votes: limits::VOTE_CELLS,
 };
 
-// An opening. One that is not to be refused begins a session over marked memory.
-fn open_is_right(replayed: &mut Replayed, case: &Case, alloc: Global) -> Result<bool, AllocError> {
-    let patterns = payload::half_word_list(&case.payload, alloc)?;
-    let first = payload::float_list(&patterns, alloc)?;
-    if first.len() as u64 != case.y {
-        return Ok(false);
-    }
-    let right = replayed.open(case, &first);
-    if case.x == 0 {
-        replayed.memory.mark();
-    }
-    Ok(right)
+// The calls of a session that is replayed, and what their lists are allocated with.
+#[derive(Drop)]
+struct Calls {
+    replayed: Replayed,
+    alloc: Global,
 }
 
-fn feed_is_right(replayed: &mut Replayed, case: &Case, alloc: Global) -> Result<bool, AllocError> {
-    match Piece::read(case.a, &case.payload, alloc)? {
-        Some(piece) => Ok(replayed.feed(case, &piece)),
-        None => Ok(false),
+impl Calls {
+    // An opening. One that is not to be refused begins a session over marked memory.
+    fn open_is_right(&mut self, case: &Case) -> Result<bool, AllocError> {
+        let patterns = payload::half_word_list(&case.payload, self.alloc)?;
+        let first = payload::float_list(&patterns, self.alloc)?;
+        if first.len() as u64 != case.y {
+            return Ok(false);
+        }
+        let right = self.replayed.open(case, &first);
+        if case.x == 0 {
+            self.replayed.memory.mark();
+        }
+        Ok(right)
     }
-}
 
-// Whether the answer of a call is right. An operation that there is not is wrong.
-fn is_right(replayed: &mut Replayed, case: &Case, alloc: Global) -> Result<bool, AllocError> {
-    match case.op {
-        0 => open_is_right(replayed, case, alloc),
-        1 => feed_is_right(replayed, case, alloc),
-        2 => Ok(replayed.read(case)),
-        _ => Ok(false),
+    fn feed_is_right(&mut self, case: &Case) -> Result<bool, AllocError> {
+        match Piece::read(case.a, &case.payload, self.alloc)? {
+            Some(piece) => Ok(self.replayed.feed(case, &piece)),
+            None => Ok(false),
+        }
+    }
+
+    // Whether the answer of a call is right. An operation that there is not is wrong.
+    fn is_right(&mut self, case: &Case) -> Result<bool, AllocError> {
+        match case.op {
+            0 => self.open_is_right(case),
+            1 => self.feed_is_right(case),
+            2 => Ok(self.replayed.read(case)),
+            _ => Ok(false),
+        }
     }
 }
 
 fn main(rt: HostRuntime) -> io::Result<()> {
     let alloc = rt.alloc();
-    let mut replayed = Replayed::new(Memory::new(MOST, alloc)?);
+    let replayed = Replayed::new(Memory::new(MOST, alloc)?);
+    let mut calls = Calls { replayed, alloc };
     replay::run(&rt, alloc, &["open", "feed", "read"], |case: Case| {
-        let right = is_right(&mut replayed, &case, alloc)?;
         Ok(Verdict {
             kind: case.op,
-            right,
+            right: calls.is_right(&case)?,
         })
     })
 }

@@ -1,56 +1,35 @@
 -- Laws of the final fold: a line is added to the counts, and after n lines each count is its column's sum. Assumes nothing.
-use mathlib.Core.Path.{◌≡◌, refl, ap, sym, ◌∙◌}
-use mathlib.Core.Bool.{Bool, true, false, not}
+use mathlib.Core.Path.{◌≡◌, refl, ap, sym, subst, ◌∙◌}
+use mathlib.Core.Logic.{inl, inr, ◌⊎◌}
 use mathlib.Core.List.{List}
-use Prim.Native.Nat.{ℕ, ◌+◌, ◌*◌, ◌^◌, ◌≤◌, ◌<◌}
-use native.Mathlib.Nat.{zero-add}
+use Prim.Native.Nat.{ℕ, zero, suc, ◌+◌, ◌*◌, ◌^◌, ◌≤◌, ◌<◌}
+use native.Mathlib.Nat.{zero-add, eq-or-lt_of_le}
 use native.Mathlib.Omega.{arith}
-use borrow.Author.Count.{below_more}
-use lib.ListN.{length, get_or, set, length-set}
-use lib.Seq.{get_or-set_same, get_or-set_other, ext_get_or}
-use lib.Dec.{T, ltb, ltb→lt, nltb→le}
+use denote.Param.Members.{Mut, Called}
+use Rattle.std.specs.Array.{MapsFrom, IsMapOf}
+use lib.ListN.{length, get_or}
+use lib.Seq.{ext_get_or}
 use lib.Ieee.{Float, nan, binary64, add}
 use Rattle.columns.specs.Columns.{list_to, probe_of}
 use Rattle.columns.proofs.Lists.{length_list, get_d_list}
 use Rattle.pulse.proofs.Sums.{sum_more, sum_below}
 use Rattle.sync.specs.Fold.{line_seconds, column_seconds, flag_at, fold_flag, column_count, fold_of}
-use Rattle.sync.specs.Steps.{Added, AddedIn}
+use Rattle.sync.specs.Steps.{Added}
 
--- ---- a line
+-- ---- what `map` made by a closure that gives f's values and stays as it is
+module _ {F A B : Type 0} (g : Mut F (A × Unit {0}) B) (made : F) (f : A → B) (gives : (x : A) (y : B) (next : F) → Called g made (x, tt) y next → (next ≡ made) × (y ≡ f x)) where
+  each_is : (xs : List A) (ys : List B) (i n : ℕ) (now : F) → now ≡ made → MapsFrom g now xs ys i n → (d : A) (e : B) (k : ℕ) → i ≤ k → k < i + n → get_or ys k e ≡ f (get_or xs k d)
+  each_is xs ys i zero now s h d e k l b = absurd (omega arith)
+  each_is xs ys i (suc n) now s h d e k l b =
+      let r = gives h.1 h.2 h.0 (subst (λ (p : F). Called g p (h.1, tt) h.2 h.0) s h.5) in
+      at (eq-or-lt_of_le l) r.1 (λ a. each_is xs ys (i + 1) n h.0 r.0 h.6 d e k (omega arith) (omega arith))
+    where
+      at : (i ≡ k) ⊎ (i < k) → h.2 ≡ f h.1 → (i < k → get_or ys k e ≡ f (get_or xs k d)) → get_or ys k e ≡ f (get_or xs k d)
+      at (inl q) v later = rw (← q) (h.4.1 e ∙ v ∙ ap f (sym (h.3.1 d)))
+      at (inr q) v later = later q
 
-pub added_none : (f : ℕ → ℕ) (m : List ℕ) → Added f 0 m m
-added_none f m = record { size = refl; sum = λ x l. absurd (omega arith); rest = λ x l. refl }
-
--- ---- some columns of a line
-
-pub part_none : (f : ℕ → ℕ) (a : ℕ) (m : List ℕ) → AddedIn f a a m m
-part_none f a m = record { size = refl; sum = λ x l h. absurd (omega arith); rest = λ x n. refl }
-
-pub part_zero : (f : ℕ → ℕ) (a b : ℕ) (m : List ℕ) → ((x : ℕ) → a ≤ x → x < b → f x ≡ 0) → AddedIn f a b m m
-part_zero f a b m z = record { size = refl; sum = λ x l h. omega (arith, z x l h); rest = λ x n. refl }
-
-pub part_more : (f : ℕ → ℕ) (a n : ℕ) (old new : List ℕ) (v : ℕ) → a ≤ n → n < length new → AddedIn f a n old new → v ≡ get_or new n 0 + f n → AddedIn f a (n + 1) old (set new n v)
-part_more f a n old new v o l p e =
-    record {
-      size = simp length-set p.size;
-      sum = λ x i h.
-          below_more (λ (x : ℕ). a ≤ x → get_or (set new n v) x 0 ≡ get_or old x 0 + f x) n (λ x b i. get_or-set_other new n x v 0 (λ q. omega arith) ∙ p.sum x i b)
-          (λ i. get_or-set_same new n v 0 l ∙ e ∙ ap (λ (z : ℕ). z + f n) (p.rest n (λ i b. omega arith))) x h i;
-      rest = λ x b. get_or-set_other new n x v 0 (λ q. b (omega arith) (omega arith)) ∙ p.rest x (λ i d. b i (omega arith));
-    }
-
--- the columns before a, and those from a on and below b
-pub part_join : (f : ℕ → ℕ) (a b : ℕ) (old mid new : List ℕ) → a ≤ b → Added f a old mid → AddedIn f a b mid new → Added f b old new
-part_join f a b old mid new o p q =
-    record {
-      size = q.size ∙ p.size;
-      sum = λ x h. before x h (ltb x a) (ltb→lt x a) (nltb→le x a);
-      rest = λ x n. q.rest x (λ i h. n h) ∙ p.rest x (λ h. n (omega arith));
-    }
-  where
-    before : (x : ℕ) → x < b → (t : Bool) → (T t → x < a) → (T (not t) → a ≤ x) → get_or new x 0 ≡ get_or old x 0 + f x
-    before x h true l g = let s = l tt in q.rest x (λ i k. omega arith) ∙ p.sum x s
-    before x h false l g = let s = g tt in q.sum x s h ∙ ap (λ (z : ℕ). z + f x) (p.rest x (λ k. omega arith))
+  pub map_is : (xs : List A) (ys : List B) (n : ℕ) (d : A) (e : B) → IsMapOf g made xs ys n → (k : ℕ) → k < n → get_or ys k e ≡ f (get_or xs k d)
+  map_is xs ys n d e h k l = each_is xs ys 0 n made refl h.each d e k (omega arith) (omega arith)
 
 -- ---- the lines
 

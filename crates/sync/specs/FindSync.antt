@@ -5,7 +5,7 @@ use Rattle.std.specs.Float.{fin, binary64}
 use Rattle.std.specs.Float.Ieee.{add, sub, mul, div, le, of_int, to_signed}
 use Rattle.limits.specs.declared.Refusal.{Refusal}
 use Rattle.limits.specs.declared.Refusal.TheVariants as why
-use Rattle.limits.specs.Refusals.{◌⇒◌, first_of}
+use Rattle.limits.specs.Refusals.{Cause, ◌⇒◌, first_of}
 use Rattle.limits.specs.Ranges.{any_above}
 use Rattle.ieee.specs.Numbers.{of_nat}
 use Rattle.ieee.specs.Casts.{round_away}
@@ -53,7 +53,7 @@ sync_result_of spec rate flags = let read = take (image_probes spec rate) flags 
 abbrev pub silent_result : ModeSpec → Float → SyncResult
 silent_result spec rate = record { adjusted_rate_hz = rate; skip_samples = skip_of 0 spec rate; slant_deg = None; sync_quality = fin false 0 (pos 0) }
 
--- the row is one that the inner form takes; every mode's is
+-- the row is one that the inner form takes; every mode's is. Two clauses ask for it: a ghost field of ModeSpec would ask it of all who make a row.
 pub record SpecFits (spec : ModeSpec) : Type 0 where
   pub width : line_width spec ≤ 65536
   pub lines : spec.image_lines ≤ 65536
@@ -73,16 +73,18 @@ unfoldable pub rate_allowed : Float → Bool
 unfolding le of_int
 rate_allowed rate = le (of_nat 8000) rate && le rate (of_nat 48000)
 
--- the first cause that applies, or none: mode, rate, work memory, how many flags, a flag
-unfoldable pub sync_refusal : List ℕ → Float → ℕ → ℕ → ℕ → Result Unit Refusal
-sync_refusal flags rate mode img_places votes_places =
-    first_of
-    ((ltb 15 mode ⇒ why.Mode)
-    ∷ (not (rate_allowed rate) ⇒ why.Rate)
+-- rate, work memory, how many flags, a flag
+abbrev pub causes : List ℕ → Float → ℕ → ℕ → List Cause
+causes flags rate img_places votes_places =
+    (not (rate_allowed rate) ⇒ why.Rate)
     ∷ ((ltb img_places 441000 || ltb votes_places 144000) ⇒ why.Memory)
     ∷ (ltb 16777216 (length flags) ⇒ why.Length)
     ∷ (any_above flags ⇒ why.Flag)
-    ∷ [])
+    ∷ []
+
+-- the first cause that applies, or none: the mode, and then those above
+unfoldable pub sync_refusal : List ℕ → Float → ℕ → ℕ → ℕ → Result Unit Refusal
+sync_refusal flags rate mode img_places votes_places = first_of ((ltb 15 mode ⇒ why.Mode) ∷ causes flags rate img_places votes_places)
 
 abbrev pub answer_by : Result Unit Refusal → SyncResult → Result SyncResult Refusal
 answer_by (Ok u) result = Ok result

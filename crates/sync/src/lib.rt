@@ -1,22 +1,25 @@
 // `find_sync`: the slant of a picture corrects the rate, and a fold at that rate gives the skip and the quality.
 // From slowrx.rs's sync.rs.
+// A bound on one number stays a clause, since a struct of one number would be opened at each sum, and so does SpecFits: a ghost field
+// of a row would be asked of whoever makes one.
 #![tactic(auto)]
 
 ghost use Rattle.std.specs.Prelude.{◌≡◌, ℕ, ◌+◌, ◌≤◌, ◌<◌, true, length, get_or, T};
 ghost use Rattle.std.specs.Float.{nan, binary64};
 ghost use Rattle.std.specs.Float.Ieee.{add};
 ghost use Rattle.std.specs.Float.Ieee.Positive.{positive};
+ghost use Rattle.limits.specs.Refusals.{first_of};
 ghost use Rattle.columns.specs.Columns.{list_to, probe_of};
 ghost use Rattle.sync.specs.Fold.{column_seconds, flag_at, fold_of};
 ghost use Rattle.sync.specs.Steps.{Added, AddedIn, Rising, Clear};
-ghost use Rattle.sync.specs.FindSync.{skip_seconds, skip_of, aligned_of, sync_result_of, SpecFits, SyncDone, rate_allowed, sync_refusal, SyncCall};
+ghost use Rattle.sync.specs.FindSync.{skip_seconds, skip_of, aligned_of, sync_result_of, SpecFits, SyncDone, rate_allowed, causes, SyncCall};
 
 use hough::Passes;
 use limits::Refusal;
-use modespec::ModeSpec;
+use modespec::{Mode, ModeSpec};
 
 // The rate that cancels the slant, and where line 0 begins, in samples from the first flag on.
-#[derive(Clone, Copy)]
+#[derive(Clone, Copy, Default)]
 pub struct SyncResult {
     pub adjusted_rate_hz: f64,
     pub skip_samples: i64,
@@ -26,26 +29,27 @@ pub struct SyncResult {
 
 // ---- the final fold
 
+// A line is folded in 25 blocks of 28 columns.
+const BLOCK_COLUMNS: usize = 28;
+
+const BLOCKS: usize = 25;
+
 // The times of the 700 columns of a line, worked out once and not in each line.
 fn column_seconds(line: f64) -> [f64; 700]
     ensures { result ≡ list_to (column_seconds line) 700 }
 {
-    let parts = columns::column_parts(700);
-    let mut seconds = [0.0; 700];
-    for x in 0..700 {
-        seconds[x] = parts[x] * line;
-    }
-    seconds
+    columns::column_parts(700).map(|part| part * line)
 }
 
-// Whether one look at 64 flags tells that none from `first` to `last` is set.
+// Whether a test of 64 flags shows that none from `first` to `last` is set.
 fn are_clear(flags: &[u8], first: usize, last: usize) -> bool
     ensures { result ≡ true → Clear flags.now first last }
 {
-    if last < first || last - first >= 64 || flags.len() < 64 || first > flags.len() - 64 {
+    let end = first.saturating_add(64);
+    let Some(block) = flags.get(first..end) else {
         return false;
-    }
-    limits::all_at_most(0, &flags[first..first + 64])
+    };
+    last < end && limits::all_at_most(0, block)
 }
 
 // A line of the fold: the flags, the times of its columns from `start` on, and the samples in a second. Where it is `rising`,
@@ -74,18 +78,19 @@ impl Line<'_> {
         requires { x < 700 }
         ensures { result ≡ flag_at self.entry.flags.now self.entry.rate self.entry.start (get_or self.entry.columns.now x nan) }
     {
-        self.flags.get(self.place(x)).copied().unwrap_or(0)
+        columns::flag(self.flags, self.place(x))
     }
 
-    // Whether one look tells that the 28 columns from `from` on show no flag that is set.
+    // Whether a test of 64 flags shows that the block of columns from `from` on shows no flag that is set.
     fn block_is_clear(self, from: usize) -> bool
         requires { (from + 28 ≤ 700) × (self.rising ≡ true) }
         ensures { result ≡ true → (x : ℕ) → from ≤ x → x < from + 28 → flag_at self.entry.flags.now self.entry.rate self.entry.start (get_or self.entry.columns.now x nan) ≡ 0 }
     {
-        are_clear(self.flags, self.place(from), self.place(from + 27))
+        let last = from + BLOCK_COLUMNS - 1;
+        are_clear(self.flags, self.place(from), self.place(last))
     }
 
-    // Adds the flags of 28 columns. Where the columns show flags in order, most blocks of a picture are told to be clear at one look.
+    // Adds the flags of a block. Where the columns show flags in order, that one test shows most blocks of a picture to be clear.
     fn fold_block(self, counts: &mut [u32; 700], from: usize)
         requires { (from + 28 ≤ 700) × ((x : ℕ) → from ≤ x → x < 700 → get_or counts.old x 0 ≤ 16711680) }
         ensures { AddedIn (λ x. flag_at self.entry.flags.now self.entry.rate self.entry.start (get_or self.entry.columns.now x nan)) from (from + 28) counts.old counts.new }
@@ -93,23 +98,24 @@ impl Line<'_> {
         if self.rising && self.block_is_clear(from) {
             return;
         }
-        for x in from..from + 28 {
+        // by number: column x says which flag and which count
+        for x in from..from + BLOCK_COLUMNS {
             counts[x] += self.flag(x) as u32;
         }
     }
 
-    // Adds the flags of the line, in 25 blocks.
+    // Adds the flags of the line.
     fn fold(self, counts: &mut [u32; 700])
         requires { (x : ℕ) → x < 700 → get_or counts.old x 0 ≤ 16711680 }
         ensures { Added (λ x. flag_at self.entry.flags.now self.entry.rate self.entry.start (get_or self.entry.columns.now x nan)) 700 counts.old counts.new }
     {
-        for block in 0..25 {
-            self.fold_block(counts, block * 28);
+        for block in 0..BLOCKS {
+            self.fold_block(counts, block * BLOCK_COLUMNS);
         }
     }
 }
 
-// Whether x is above 0 and finite, as each rate and line of a picture is.
+// Whether x is above 0 and below 1,000,000, as each rate and line of a picture is.
 fn is_positive(x: f64) -> bool
     ensures { result ≡ true → T (positive x) }
 {
@@ -185,6 +191,7 @@ fn aligned(flags: &[u8], spec: ModeSpec, passes: Passes) -> SyncResult
 
 // `find_sync` of a row. Of img the first 441,000 places and of votes the first 144,000 may hold anything, and come
 // back as 0.
+// Two slices: of a struct of both, with their lengths as ghost fields, the clauses over what they hold after a call did not close.
 pub fn find_sync_in(
     flags: &[u8],
     rate: f64,
@@ -206,23 +213,13 @@ pub fn find_sync_in(
 fn rate_allowed(rate: f64) -> bool
     ensures { result ≡ rate_allowed rate }
 {
-    rate >= 8000.0 && rate <= 48000.0
+    (8000.0..=48000.0).contains(&rate)
 }
 
-// Refused for the first cause that applies, by the order of their numbers.
-#[tactic(auto, unfolding(crate::specs::FindSync::sync_refusal))]
-fn refusal(
-    flags: &[u8],
-    rate: f64,
-    mode: u8,
-    img_places: usize,
-    votes_places: usize,
-) -> Result<(), Refusal>
-    ensures { result ≡ sync_refusal flags.now rate mode img_places votes_places }
+// The causes behind the mode's: refused for the first that applies, by the order of their numbers.
+fn refusal(flags: &[u8], rate: f64, img_places: usize, votes_places: usize) -> Result<(), Refusal>
+    ensures { result ≡ first_of (causes flags.now rate img_places votes_places) }
 {
-    if mode > 15 {
-        return Err(Refusal::Mode);
-    }
     if !rate_allowed(rate) {
         return Err(Refusal::Rate);
     }
@@ -247,6 +244,7 @@ pub fn find_sync(
 ) -> Result<SyncResult, Refusal>
     ensures { SyncCall flags.now rate mode result img.old img.new votes.old votes.new }
 {
-    refusal(flags, rate, mode, img.len(), votes.len())?;
-    Ok(find_sync_in(flags, rate, modespec::for_mode(mode), img, votes))
+    let mode = Mode::try_from(mode)?;
+    refusal(flags, rate, img.len(), votes.len())?;
+    Ok(find_sync_in(flags, rate, mode.spec(), img, votes))
 }

@@ -1,3 +1,2 @@
 -- One evaluation of the start search (01-scope.md, "Start search"). Definitions only.
 pub mod Evaluate
-pub mod Steps

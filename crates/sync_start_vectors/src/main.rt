@@ -6,6 +6,7 @@
 // Operation 2: the first line of window b in mode a that is pulsed in column c. x is the line, all ones for none. The payload has the flags.
 #![tactic(auto)]
 
+use modespec::Mode;
 use replay::payload::{self, Payload};
 use replay::tally::{Tally, Verdict};
 use replay::{Case, Pattern};
@@ -19,7 +20,7 @@ const MOST_FLAGS: usize = 40000;
 // The flags and samples of a record.
 #[derive(Drop)]
 struct Sound {
-    mode: u8,
+    mode: Mode,
     flags: Vec<u8>,
     samples: Vec<f32>,
 }
@@ -27,20 +28,21 @@ struct Sound {
 impl Sound {
     // Evaluation j behind a streak, none where no search makes it. It is lent the flags that are taken then, and the samples that are known.
     fn evaluation(&self, j: u64, streak: u64) -> Option<Evaluation> {
-        let window = modespec::mode_window_probes(self.mode);
-        if self.mode > 15 || window > 65536 || j > 65536 || streak > 65536 {
+        let mode = self.mode as u8;
+        let window = modespec::mode_window_probes(mode);
+        if window > 65536 || j > 65536 || streak > 65536 {
             return None;
         }
         let taken = window + 64 * j as usize;
         let flags = self.flags.get(..taken)?;
         let samples = self.samples.get(..4 * taken + 4)?;
-        let evaluation = sync_start::evaluate(self.mode, j as usize, flags, samples, streak);
+        let evaluation = sync_start::evaluate(mode, j as usize, flags, samples, streak);
         Some(evaluation)
     }
 
     // Whether a search that has made so many evaluations makes no more.
     fn is_searched(&self, made: usize, last: Evaluation) -> bool {
-        let window = modespec::mode_window_probes(self.mode);
+        let window = modespec::mode_window_probes(self.mode as u8);
         last.start.is_some() || self.flags.len() < window || (self.flags.len() - window) / 64 < made
     }
 }
@@ -55,10 +57,9 @@ fn is_recorded(evaluation: Evaluation, case: &Case) -> bool {
 }
 
 fn evaluation_is_right(case: &Case, sound: &Sound) -> bool {
-    match sound.evaluation(case.b, case.c) {
-        Some(evaluation) => is_recorded(evaluation, case),
-        None => false,
-    }
+    sound
+        .evaluation(case.b, case.c)
+        .is_some_and(|evaluation| is_recorded(evaluation, case))
 }
 
 // The last evaluation of a search, none where its evaluations have not these qualities, or one comes behind a start.
@@ -81,18 +82,16 @@ fn last_of_search(sound: &Sound, qualities: &[u32]) -> Option<Evaluation> {
 }
 
 fn search_is_right(case: &Case, sound: &Sound, qualities: &[u32]) -> bool {
-    match last_of_search(sound, qualities) {
-        Some(last) => {
-            qualities.len() as u64 == case.c
-                && sound.is_searched(qualities.len(), last)
-                && is_recorded(last, case)
-        }
-        None => false,
-    }
+    let Some(last) = last_of_search(sound, qualities) else {
+        return false;
+    };
+    qualities.len() as u64 == case.c
+        && sound.is_searched(qualities.len(), last)
+        && is_recorded(last, case)
 }
 
 fn first_line_is_right(case: &Case, sound: &Sound) -> bool {
-    let spec = modespec::for_mode(sound.mode);
+    let spec = sound.mode.spec();
     let width = modespec::pulse_columns(spec, 700);
     if case.b > 65536 || case.c > 700 || width > 700 || modespec::window_lines(spec) > 65536 {
         return false;
@@ -105,7 +104,11 @@ fn first_line_is_right(case: &Case, sound: &Sound) -> bool {
     line.map(|line| line as u64) == replay::optional(case.x)
 }
 
+// Whether a record's answer is right. A record of no mode is wrong.
 fn is_right(case: &Case, alloc: Global) -> Result<bool, AllocError> {
+    let Ok(Ok(mode)) = u8::try_from(case.a).map(Mode::try_from) else {
+        return Ok(false);
+    };
     let numbers = payload::half_word_list(&case.payload, alloc)?;
     let mut payload = Payload::new(&numbers);
     let flags = payload.flags(MOST_FLAGS, alloc)?;
@@ -113,7 +116,6 @@ fn is_right(case: &Case, alloc: Global) -> Result<bool, AllocError> {
     let qualities = payload.numbers(searched);
     let mut samples = vec![in alloc; 0.0f32; 4 * flags.len() + 4]?;
     payload.samples(&mut samples);
-    let mode = if case.a < 16 { case.a as u8 } else { u8::MAX };
     let sound = Sound {
         mode,
         flags,
@@ -130,7 +132,7 @@ fn is_right(case: &Case, alloc: Global) -> Result<bool, AllocError> {
 // A file that is not there is wrong.
 fn main(rt: HostRuntime) -> io::Result<()> {
     let alloc = rt.alloc();
-    let mut tally = Tally::new();
+    let mut tally = Tally::of(&["evaluate", "search", "first_pulsed_line"], alloc)?;
     for path in ["vectors", "inner"] {
         match replay::opened(&rt, path) {
             Some(file) => replay::each_record(file, alloc, &mut tally, |case: Case| {
@@ -143,5 +145,5 @@ fn main(rt: HostRuntime) -> io::Result<()> {
             None => tally.count_cut(),
         }
     }
-    tally.report(&rt, &["evaluate", "search", "first_pulsed_line"])
+    tally.report(&rt)
 }

@@ -26,26 +26,21 @@ fn is_right(case: &Case, flags: &[u8], img: &mut [u8], votes: &mut [u16]) -> boo
     let Ok(mode) = u8::try_from(case.a) else {
         return false;
     };
-    match sync::find_sync(flags, f64::from_pattern(case.b), mode, img, votes) {
-        Ok(found) => result_is_right(found, case),
-        Err(_) => false,
-    }
+    sync::find_sync(flags, f64::from_pattern(case.b), mode, img, votes).is_ok_and(
+        |found| result_is_right(found, case),
+    )
 }
 
 // The work memory starts with anything.
 fn main(rt: HostRuntime) -> io::Result<()> {
     let alloc = rt.alloc();
-    let mut img = vec![in alloc; 7u8; 441000]?;
-    let mut votes = vec![in alloc; 7u16; 144000]?;
+    let mut img = vec![in alloc; 7u8; limits::IMG_BYTES]?;
+    let mut votes = vec![in alloc; 7u16; limits::VOTE_CELLS]?;
     let kinds = ["no_slant", "slant"];
     replay::run(&rt, alloc, &kinds, |case: Case| {
         let flags = flags_of(&case, alloc)?;
         Ok(Verdict {
-            kind: if replay::optional(case.y).is_some() {
-                1
-            } else {
-                0
-            },
+            kind: u64::from(replay::optional(case.y).is_some()),
             right: is_right(&case, &flags, &mut img, &mut votes),
         })
     })

@@ -5,11 +5,10 @@ use mathlib.Core.List.{List}
 use Prim.Native.Nat.{ℕ, zero, suc, ◌+◌, ◌≤◌, ◌<◌}
 use native.Mathlib.Numerals.{add-one}
 use native.Mathlib.Omega.{arith}
-use borrow.Author.Tests.{eq-eqb}
 use mir.Val.{bool_byte}
 use lib.Dec.{eqb}
 use lib.Ieee.{Float}
-use lib.ListN.{length, get_or, replicate, get_or-eq_default}
+use lib.ListN.{length, get_or, replicate}
 use lib.Seq.{ext_get_or}
 use Rattle.columns.specs.Columns.{probe_of}
 use Rattle.window_fold.specs.Fold.{hit_by, hit_at, hits_to, lines_at, fold_to}
@@ -26,13 +25,6 @@ test_bit false = refl
 pub bit_test : (window : List ℕ) (i : ℕ) → bool_byte (not (eqb (get_or window i 0) 0)) ≡ bit_at window i
 unfolding bit_at
 bit_test window i = test_bit (eqb (get_or window i 0) 0)
-
-bit_clear : (window : List ℕ) (i : ℕ) → get_or window i 0 ≡ 0 → 0 ≡ bit_at window i
-unfolding bit_at
-bit_clear window i h = rw (eq-eqb _ _ h)
-
-pub bit_beyond : (window : List ℕ) (i : ℕ) → length window ≤ i → 0 ≡ bit_at window i
-bit_beyond window i h = bit_clear window i (get_or-eq_default window 0 h)
 
 pub bit_hit : (samples : Float) (window : List ℕ) (lines : Float) (i : ℕ) → i ≡ probe_of lines samples → bit_at window i ≡ hit_by samples window lines
 unfolding hit_by bit_at

@@ -30,7 +30,7 @@ bytes_are (suc n) v (suc k) = bytes_are n (v / 256) k
 whole : (v : ℕ) → v % 256 + 256 * (v / 256) ≡ v
 whole v = omega arith
 
-part : (n v : ℕ) → v < 256 ^ suc n → v / 256 < 256 ^ n
+pub part : (n v : ℕ) → v < 256 ^ suc n → v / 256 < 256 ^ n
 part n v h = go v (256 ^ n) (subst (λ (k : ℕ). v < k) (pow-succ' 256 n) h)
   where
     go : (v p : ℕ) → v < 256 * p → v / 256 < p

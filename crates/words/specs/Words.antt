@@ -1,7 +1,7 @@
 -- Numbers as bytes, the least first (02-change-requests.md, A.1, and the vector files), and when a float is the one that a bit pattern says. Definitions only.
 use Rattle.std.specs.Prelude.{ℕ, zero, suc, ◌+◌, ◌-◌, ◌*◌, ◌/◌, ◌%◌, ◌^◌, Bool, cond, List, [], ◌∷◌, take, drop, eqb, ltb, ℤ, pos, negsuc, Float}
-use Rattle.std.specs.Float.{Format, binary32}
-use Rattle.std.specs.Float.Ieee.{is_nan, nan_bits, to_bits, of_bits}
+use Rattle.std.specs.Float.{Format}
+use Rattle.std.specs.Float.Ieee.{is_nan, nan_bits, to_bits}
 
 -- bytes as a number, the least first
 unfoldable pub little_endian : List ℕ → ℕ
@@ -17,12 +17,9 @@ unfoldable pub bytes_of : ℕ → ℕ → List ℕ
 bytes_of zero v = []
 bytes_of (suc n) v = v % 256 ∷ bytes_of n (v / 256)
 
--- half word number k, and as an `f32`
+-- half word number k
 abbrev pub half_word_at : List ℕ → ℕ → ℕ
 half_word_at bs k = number_at bs (4 * k) 4
-
-abbrev pub float32_at : List ℕ → ℕ → Float
-float32_at bs k = of_bits binary32 (half_word_at bs k)
 
 -- the 64 bits of a signed number, in two's complement, and the number that 64 bits are
 abbrev pub bits_of : ℤ → ℕ

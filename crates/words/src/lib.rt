@@ -41,33 +41,32 @@ pub fn half_word(b: &[u8], at: usize) -> u32
     number(b, at, 4) as u32
 }
 
-// The lower half of a word, for the pattern of an `f32`.
+// The lower half of a word, for the pattern of an `f32`. By `%`, since `as` may drop no bits.
 pub fn low_half(x: u64) -> u32
     ensures { result ≡ x % 2 ^ 32 }
 {
     (x % 0x1_0000_0000) as u32
 }
 
-// Writes the n lowest bytes of v from place `at` on, the least first.
+// Writes the n lowest bytes of v from place `at` on, the least first: all eight of them and zeros where n is larger.
 pub fn put(b: &mut [u8], at: usize, n: usize, v: u64)
     requires { at + n ≤ length b.old }
     ensures { b.new ≡ sets b.old at (bytes_of n v) }
 {
-    let mut rest = v;
-    for byte in &mut b[at..at + n] {
-        *byte = (rest % 256) as u8;
-        rest /= 256;
-    }
+    let low = n.min(8);
+    b[at..at + low].copy_from_slice(&v.to_le_bytes()[..low]);
+    b[at + low..at + n].fill(0);
 }
 
-// The bits of x in two's complement.
+// The bits of x in two's complement. By name beside std's cast: the clause says `bits_of`, by which a card's bytes are defined, where std's
+// says `cast_unsigned w64`, so that no caller has to show that the two are one.
 pub fn signed_bits(x: i64) -> u64
     ensures { result ≡ bits_of x }
 {
     x.cast_unsigned()
 }
 
-// The number whose two's complement is b.
+// The number whose two's complement is b, by name as above.
 pub fn signed_of(b: u64) -> i64
     ensures { result ≡ signed_of b }
 {
@@ -92,7 +91,8 @@ pub trait Pattern {
     fn pattern(self) -> Self::Bits
         ensures { word result ≡ Ieee.to_bits format (value self) };
 
-    // Whether x has the pattern. Any NaN matches any NaN's.
+    // Whether x has the pattern. Any NaN matches any NaN's. No default body: it would want the test for a NaN and a law of `==` on patterns
+    // as members of the trait, and is no shorter than the two bodies.
     fn has_pattern(self, bits: Self::Bits) -> bool
         ensures { result ≡ has_bits format (value self) (word bits) };
 }

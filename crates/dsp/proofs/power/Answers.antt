@@ -5,4 +5,4 @@ use Rattle.dsp.proofs.power.Goals as goal
 
 pub returns : goal.returns
 unfolding power_of
-returns c = rw (c.f32_to_f64_with_nan-a.ensures, c.f32_to_f64_with_nan-b.ensures)
+returns c = rw (c.to_f64-a.ensures, c.to_f64-b.ensures)

@@ -1,12 +1,6 @@
 -- `fma::finish` meets its contract. Assumes nothing.
-use native.Mathlib.Nat.{lt_of_le_of_lt}
-use lib.Dec.{lit<}
 use Rattle.fma.proofs.Ends.{finish_top, finish_mid, finish_low, finish_zero}
 use Rattle.fma.proofs.finish.Goals as goal
-
-pub overflow_add-result : goal.overflow_add-result
-overflow_add-result c =
-    record { fits = lt_of_le_of_lt (finish_mid c.args.v c.args.i c.nearest_shift.result c.requires.0 c.requires.1 c.if-i-gt3278.false c.if-i-gt1232.true c.nearest_shift.ensures).small (lit< tt) }
 
 pub returns-then-i-gt3278 : goal.returns-then-i-gt3278
 returns-then-i-gt3278 c = finish_top c.args.v c.args.i c.requires.0 c.if-i-gt3278.true

@@ -35,7 +35,7 @@ returns-then-slant_ok c =
     let a = c.args in
     let k = kept_more _ 1 _ _ a.img.now c.loop.img _ a.votes.now c.loop.votes _ c.loop.invariant.1 p.ensures in
     record {
-      passes = answers a.flags.now a.spec a.rate _ c.adjust-state.result c.line_width-w.ensures (c.loop.invariant.0 ∙ ends_ok _ _ _ c.loop.counter _ _ _ _ (omega arith) p.ensures.slant c.in-Some.is c.adjust-state.ensures (sym c.slant_ok.ensures ∙ c.if-slant_ok.true));
+      passes = answers a.flags.now a.spec a.rate _ c.adjust-state.result c.line_width-w.ensures (c.loop.invariant.0 ∙ ends_ok _ _ _ c.loop.counter _ _ _ _ _ (omega arith) p.ensures.slant c.in-Found.is c.adjust-state.ensures (sym c.slant_ok.ensures ∙ c.if-slant_ok.true));
       img = k.img_done (omega arith);
       votes = k.votes_done (omega arith);
     }
@@ -44,7 +44,7 @@ pub loop-preserved : goal.loop-preserved
 loop-preserved c =
     let p = c.hough_detect_slant in
     let a = c.args in (
-      c.loop.invariant.0 ∙ goes_on _ _ _ c.loop.counter _ _ _ _ (omega arith) p.ensures.slant c.in-Some.is c.adjust-state.ensures (sym c.slant_ok.ensures ∙ c.if-slant_ok.false),
+      c.loop.invariant.0 ∙ goes_on _ _ _ c.loop.counter _ _ _ _ _ (omega arith) p.ensures.slant c.in-Found.is c.adjust-state.ensures (sym c.slant_ok.ensures ∙ c.if-slant_ok.false),
       kept_more _ _ _ _ a.img.now c.loop.img _ a.votes.now c.loop.votes _ c.loop.invariant.1 p.ensures,
     )
 

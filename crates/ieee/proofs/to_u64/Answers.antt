@@ -4,7 +4,7 @@ use Rattle.std.proofs.Common.{ℕ, ◌/◌, ◌^◌, ◌≤◌, T, sym, subst, a
 use lib.Ieee.{Float, binary64, fits, le, lt, to_bits}
 use lib.Ieee.Positive.{above, above_of_le}
 use Rattle.std.proofs.num.Truncating.{one, at_least_one, under_one, below_one, cut_down}
-use Rattle.ieee.proofs.Order.{yes, no, no_nan, over_minus_one, small_exponent, unsigned_top, two_to, two_to_64_is}
+use Rattle.ieee.proofs.Order.{yes, no, over_minus_one, small_exponent, unsigned_top, two_to, two_to_64_is}
 use Rattle.ieee.proofs.Shifting.{from_1023, cut_left}
 use Rattle.ieee.proofs.to_u64.Goals as goal
 
@@ -17,9 +17,6 @@ below x f a h = small_exponent x f (positive x a) h
 
 more : (e : ℕ) → e ≤ 1054 → e ≤ 1075
 more e h = omega arith
-
-pub float_to_bits-bits : goal.float_to_bits-bits
-float_to_bits-bits c = no_nan c.args.x (positive c.args.x (at_least_one c.args.x c.if-x.true))
 
 pub overflow_sub-result : goal.overflow_sub-result
 overflow_sub-result c =

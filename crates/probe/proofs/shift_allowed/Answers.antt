@@ -3,7 +3,7 @@
 use Rattle.std.proofs.Common.{◌∙◌}
 use lib.Ieee.{of_bits, of_int, neg}
 use Rattle.probe.specs.Refusals.{shift_allowed, between}
-use Rattle.probe.proofs.Testing.{float_le}
+use Rattle.ieee.proofs.Compare.{float_le}
 use Rattle.probe.proofs.shift_allowed.Goals as goal
 
 pub returns : goal.returns

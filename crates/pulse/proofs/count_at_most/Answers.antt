@@ -1,15 +1,17 @@
 -- `pulse::count_at_most` meets its contract. Assumes nothing.
-use Rattle.std.proofs.Common.{◌≡◌, ℕ, ◌+◌, Bool, true, false, cond, leb, refl, arith, rules}
-use Rattle.std.proofs.lemmas.List.Recursion.{is_count_by}
-use Rattle.pulse.specs.Median.{count_at_most}
+use Rattle.std.proofs.Common.{rules, tests, arith}
+use Rattle.std.proofs.lemmas.Iterator.{YieldsList-from_map, YieldsList-from_slice}
+use Rattle.std.proofs.lemmas.Iterator.Consumers.{YieldsList-at, fits_by_from_yields_list}
+use Rattle.pulse.proofs.Sorting.{one, count_sum, count_length}
 use Rattle.pulse.proofs.count_at_most.Goals as goal
 
-step : (t : Bool) (n : ℕ) → cond t 1 0 + n ≡ cond t (1 + n) n
-step true n = refl
-step false n = omega arith
+pub sum-requires-clause-fits : goal.sum-requires-clause-fits
+sum-requires-clause-fits c =
+    let v = c.args.v in
+    let k = c.args.counts.now in
+    fits_by_from_yields_list (one v) k _ _
+    (YieldsList-from_map _ (one v) (YieldsList-at c.map.ensures.source (YieldsList-from_slice k cc)) c.map.ensures.closure (λ x r q d. search (rules, tests)))
+    (omega (arith, count_sum v k, count_length v k, c.iter.ensures.len))
 
 pub returns : goal.returns
-unfolding count_at_most
-returns c =
-    let v = c.args.v in
-    search (rules, is_count_by (count_at_most v) (λ x. leb x v) refl (λ x xs. step (leb x v) (count_at_most v xs)))
+returns c = search (rules, count_sum)

@@ -15,7 +15,7 @@ loop-x-init c =
 
 pub slide-difference-requires : goal.slide-difference-requires
 slide-difference-requires c =
-    rw c.loop-x.invariant.0 (difference_below c.args.counts.now (λ k. (c.type_inv.counts k).fits) (c.loop-x.x - 1))
+    rw c.loop-x.invariant.0 (difference_below c.args.counts.now c.fits-counts (c.loop-x.x - 1))
 
 pub loop-x-preserved : goal.loop-x-preserved
 loop-x-preserved c =

@@ -10,12 +10,12 @@ use Rattle.pulse.proofs.Columns.{columns_fit}
 use Rattle.pulse.proofs.Answers.{quality_counts, quality_lines, quality_found}
 use Rattle.pulse.proofs.sync_quality.Goals as goal
 
-pub returns-then-counts-gt65536 : goal.returns-then-counts-gt65536
-returns-then-counts-gt65536 c =
+pub returns-then-counts-gt-MAX_COUNTS : goal.returns-then-counts-gt-MAX_COUNTS
+returns-then-counts-gt-MAX_COUNTS c =
     let a = c.args in
     let k = a.counts.now in
     let m : a.mode ≤ 15 = omega (arith, number_most c.in_ok-mode.mode, c.in_ok-mode.ensures) in
-    ⊎_elim (λ h. quality_counts k a.mode a.lines m h) (λ h. quality_lines k a.mode a.lines m h.1) c.then-counts-gt65536.either
+    ⊎_elim (λ h. quality_counts k a.mode a.lines m h) (λ h. quality_lines k a.mode a.lines m h.1) c.then-counts-gt-MAX_COUNTS.either
 
 pub quality-requires : goal.quality-requires
 quality-requires c =

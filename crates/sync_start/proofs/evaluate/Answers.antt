@@ -13,16 +13,9 @@ lent : (mode j : ℕ) (flags : List ℕ) (samples : List Float) (streak taken kn
 unfolding evaluation_of
 lent mode j flags samples streak taken known e k = rw (k, all_heard (4 * (taken + 1)) samples, e)
 
-pub overflow_add-taken : goal.overflow_add-taken
-overflow_add-taken c = let e = c.mode_window_probes-w.ensures in omega arith
-
-pub evaluate_by-requires : goal.evaluate_by-requires
-evaluate_by-requires c = let e = c.mode_window_probes-w.ensures in rw length-take (omega arith, omega arith, omega arith)
-
 pub returns : goal.returns
 returns c =
     let g = c.args in
     let taken : ℕ = 64 * g.j + c.mode_window_probes-w.result in
     let is_taken : taken ≡ taken_at g.mode g.j = rw c.mode_window_probes-w.ensures in
-    let made : c.evaluate_by.result ≡ evaluation_by g.mode g.j (take taken g.flags.now) (take c.min-known.result g.samples.now) g.streak = c.evaluate_by.ensures in
-    made ∙ lent g.mode g.j g.flags.now g.samples.now g.streak taken c.min-known.result is_taken c.min-known.ensures
+    c.evaluate.ensures ∙ lent g.mode g.j g.flags.now g.samples.now g.streak taken c.min-known.result is_taken c.min-known.ensures

@@ -43,8 +43,8 @@ loop-x-preserved c =
 pub returns : goal.returns
 returns c = let n : length c.args.counts.now ≡ 700 = search rules in done _ _ _ n c.loop-x.x _ (omega arith) c.loop-x.invariant
 
-pub overflow_add-counts : goal.overflow_add-counts
-overflow_add-counts c =
+pub overflow_add-count : goal.overflow_add-count
+overflow_add-count c =
     let n : length c.args.counts.now ≡ 700 = search rules in
     let e : get_or c.loop-x.counts c.loop-x.x 0 ≡ get_or c.args.counts.now c.loop-x.x 0 =
     now_at c.args.window.now c.args.places.now c.args.counts.now n c.loop-x.x (omega arith) c.loop-x.counts c.loop-x.invariant in

@@ -1,16 +1,9 @@
--- Answers of the goals that the check leaves.
-use Rattle.std.proofs.Common.{length-take, length-drop, arith}
-use Rattle.words.proofs.Storing.{none, next, done, put_back}
+-- `words::put` meets its contract. Assumes nothing.
+use Rattle.words.proofs.Storing.{put_done}
 use Rattle.words.proofs.put.Goals as goal
-
-pub loop-byte-init : goal.loop-byte-init
-loop-byte-init c = none _ _ _ (simp (length-take, length-drop) (omega arith))
-
-pub loop-byte-preserved : goal.loop-byte-preserved
-loop-byte-preserved c = next _ _ _ _ _ c.loop-byte.invariant (omega (arith, c.loop-byte.invariant.size))
 
 pub returns : goal.returns
 returns c =
-    let s = c.loop-byte.invariant in
     let a = c.args in
-    rw (← done a.n a.v c.loop-byte.byte-items c.loop-byte.rest c.loop-byte.byte-index s (omega arith)) (put_back a.b.now c.loop-byte.byte-items a.at a.n c.requires s.size)
+    put_done a.b.now _ _ a.at a.n c.min-low.result a.v c.ranges.v.fits c.requires c.min-low.ensures (rw c.to_le_bytes.ensures at c.copy_from_slice.ensures.after)
+    (c.fill.ensures.after (λ y e. e))

@@ -18,4 +18,4 @@ int_to_float-start-3 c = in_float_lem _ (omega arith)
 
 pub returns : goal.returns
 unfolding span_of pulse_at lines_at column_part of_bits of_int
-returns c = rw (c.to_u64-2.ensures, c.to_u64.ensures, c.max.ensures)
+returns c = rw (c.to_u64-2.ensures, c.to_u64.ensures, c.max-from.ensures)

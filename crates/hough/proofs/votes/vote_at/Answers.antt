@@ -2,7 +2,7 @@
 use native.Mathlib.Omega.{arith}
 use lib.Ieee.{of_bits}
 use Rattle.ieee.specs.Numbers.{of_nat, decimal}
-use Rattle.hough.proofs.Counting.{vote_in, vote_far, vote_right, vote_left}
+use Rattle.hough.proofs.Counting.{vote_where, vote_right, vote_left}
 use Rattle.hough.proofs.Offsets.{is_true, is_false, offset_of, between, left_of, right_of}
 use Rattle.hough.proofs.votes.vote_at.Goals as goal
 use Rattle.hough.proofs.votes.vote_at.Goals.{else-u-via-then-u+else-u-w, else-u-via-else-u}
@@ -17,17 +17,11 @@ overflow_sub-k c =
     let b = between c.args.w c.args.v c.nearest.result c.requires.0 (is_true c.if-u.true) (is_true c.if-u-w.true) c.nearest.ensures in
     omega (arith, b.less)
 
-pub returns-then-k-lt600 : goal.returns-then-k-lt600
+pub returns-then-u-w : goal.returns-then-u-w
 unfolding of_bits
-returns-then-k-lt600 c =
+returns-then-u-w c =
     let b = between c.args.w c.args.v c.nearest.result c.requires.0 (is_true c.if-u.true) (is_true c.if-u-w.true) c.nearest.ensures in
-    (vote_in (of_nat c.args.w) (offset_of c.args.w c.args.v) c.args.q _ b.is b.left b.right c.if-k-lt600.true, omega arith)
-
-pub returns-else-k-lt600 : goal.returns-else-k-lt600
-unfolding of_bits
-returns-else-k-lt600 c =
-    let b = between c.args.w c.args.v c.nearest.result c.requires.0 (is_true c.if-u.true) (is_true c.if-u-w.true) c.nearest.ensures in
-    (vote_far (of_nat c.args.w) (offset_of c.args.w c.args.v) c.args.q _ b.is b.left b.right c.if-k-lt600.false, omega arith)
+    rw c.then_some.ensures (vote_where (of_nat c.args.w) (offset_of c.args.w c.args.v) c.args.q _ b.is b.left b.right c.requires.1)
 
 pub returns-else-u : goal.returns-else-u
 unfolding of_bits

@@ -30,8 +30,8 @@ returns-then-first-ne0 c =
     search_idle s c.args.store.now c.args.audio.now c.in-Searching.is c.requires.taken_in_bounds.0 c.requires.evaluations_lt_taken.1
     (rw (le-leb (window_of s.mode) s.taken in_time, ne_eqb ((s.taken - window_of s.mode) % 64) 0 no_rest))
 
-pub evaluate-made-requires-clause-mode_in_bounds : goal.evaluate-made-requires-clause-mode_in_bounds
-evaluate-made-requires-clause-mode_in_bounds c =
+pub evaluate-made-requires-clause-window_in_flags : goal.evaluate-made-requires-clause-window_in_flags
+evaluate-made-requires-clause-window_in_flags c =
     evaluate_room c.args.self.mode c.args.self.taken c.window-window.result c.args.store.now c.window-window.ensures.is
     c.if-self-window.false c.if-first-ne0.false c.requires.taken_in_bounds.0
 

@@ -6,12 +6,17 @@ use mathlib.Core.Bool.{false}
 use mathlib.Core.Path.{◌≡◌, sym}
 use Rattle.session.proofs.Session.feed.Goals as goal
 
-pub returns-then-not-sane : goal.returns-then-not-sane
-returns-then-not-sane c =
+pub returns-then-not-is_sane : goal.returns-then-not-is_sane
+returns-then-not-is_sane c =
     let x = c.args in
     let allowed = sym (c.in_ok-feed_refusal.ensures x.self.anchor) in
     let live : ended_phase x.self.phase ≡ false = feed_live x.self x.store.now x.audio.now x.img.now x.votes.now x.flags.now x.samples.now allowed in
-    feed_strange x.self x.store.now x.audio.now x.img.now x.votes.now x.flags.now x.samples.now allowed live (c.sane.ensures.no c.if-not-sane.true live)
+    feed_strange x.self x.store.now x.audio.now x.img.now x.votes.now x.flags.now x.samples.now allowed live (c.is_sane.ensures.no c.if-not-is_sane.true live)
+
+pub invariant_of-run : goal.invariant_of-run
+invariant_of-run c =
+    let x = c.args in
+    record { paired = (feed_room x.self x.store.now x.audio.now x.img.now x.votes.now x.flags.now x.samples.now (sym (c.in_ok-feed_refusal.ensures x.self.anchor))).four }
 
 pub run-requires : goal.run-requires
 run-requires c =
@@ -19,12 +24,12 @@ run-requires c =
     let allowed = sym (c.in_ok-feed_refusal.ensures x.self.anchor) in
     let h = feed_room x.self x.store.now x.audio.now x.img.now x.votes.now x.flags.now x.samples.now allowed in
     record {
-      sane = c.sane.ensures.yes c.if-not-sane.false;
-      phase_value = feed_live x.self x.store.now x.audio.now x.img.now x.votes.now x.flags.now x.samples.now allowed;
-      capacity_value = h.kept;
-      capacity_in_bounds = h.wide;
-      in_bounds = (h.image, h.counts);
-      flags_len_bound = (h.short, h.four);
+      sane = c.is_sane.ensures.yes c.if-not-is_sane.false;
+      live = feed_live x.self x.store.now x.audio.now x.img.now x.votes.now x.flags.now x.samples.now allowed;
+      store_is_capacity = h.kept;
+      samples_fit = h.wide;
+      work_memory_fits = (h.image, h.counts);
+      piece_bounded = h.short;
     }
 
 pub returns : goal.returns

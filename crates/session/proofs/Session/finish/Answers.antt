@@ -20,11 +20,11 @@ returns-in_default c =
 pub returns-then-self-full : goal.returns-then-self-full
 returns-then-self-full c =
     let x = c.args in
-    collect_idle x.self c.in-Collecting.start x.store.now x.img.now x.votes.now c.in-Collecting.is c.requires.taken_in_bounds.0 (λ h. c.if-self-full.true (h ∙ sym c.full-full.ensures))
+    collect_idle x.self c.in-Collecting.start x.store.now x.img.now x.votes.now c.in-Collecting.is c.requires.taken_in_bounds (λ h. c.if-self-full.true (h ∙ sym c.full-full.ensures))
 
 pub find_sync_in-report-requires : goal.find_sync_in-report-requires
 find_sync_in-report-requires c =
-    (subst⁻¹ (λ (v : ModeSpec). SpecFits v) c.for_mode-spec.ensures (mode_fits c.args.self.mode), c.requires.in_bounds)
+    (subst⁻¹ (λ (v : ModeSpec). SpecFits v) c.for_mode-spec.ensures (mode_fits c.args.self.mode), c.requires.work_memory_fits)
 
 pub returns : goal.returns
 unfolding of_bits of_int
@@ -35,5 +35,5 @@ returns c =
     let f = c.first_flag-first.result in
     let t = c.full-full.result in
     collect_done s c.in-Collecting.start st c.args.img.now c.args.votes.now found.new.img found.new.votes found.result f t
-    c.in-Collecting.is c.requires.taken_in_bounds.0 c.if-self-full.false c.full-full.ensures c.first_flag-first.ensures
+    c.in-Collecting.is c.requires.taken_in_bounds c.if-self-full.false c.full-full.ensures c.first_flag-first.ensures
     (found.ensures.result ∙ ap (λ (v : ModeSpec). sync_result_of v working_rate (take (t - f) (drop f st))) c.for_mode-spec.ensures) found.ensures.img found.ensures.votes

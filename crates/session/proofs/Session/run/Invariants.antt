@@ -2,11 +2,13 @@
 -- Assumes nothing.
 use Prim.Native.Nat.{◌-◌}
 use lib.ListN.{length}
-use Rattle.session.proofs.Loop.{Part}
+use Rattle.session.proofs.Loop.{Left, Part}
 use Rattle.session.proofs.Session.run.Given as goal
 
-abbrev pub invariant-loop-taken : goal.invariant-loop-taken
-invariant-loop-taken l = Part l.initial.session l.initial.store l.initial.audio l.initial.img l.initial.votes l.flags l.samples l.taken l.session l.store l.audio l.img l.votes
+abbrev pub invariant-loop-left : goal.invariant-loop-left
+invariant-loop-left l =
+    Left l.piece.flags.now l.piece.samples.now l.left.flags.now l.left.samples.now
+    × Part l.initial.session l.initial.store l.initial.audio l.initial.img l.initial.votes l.piece.flags.now l.piece.samples.now (length l.piece.flags.now - length l.left.flags.now) l.session l.store l.audio l.img l.votes
 
-abbrev pub decreases-loop-taken : goal.decreases-loop-taken
-decreases-loop-taken l = length l.flags - l.taken
+abbrev pub decreases-loop-left : goal.decreases-loop-left
+decreases-loop-left l = length l.left.flags.now

@@ -1,7 +1,7 @@
 -- `sync::Line::block_is_clear` meets its contract. Assumes nothing.
 use mathlib.Core.Path.{◌≡◌}
 use mathlib.Core.List.{List}
-use Prim.Native.Nat.{ℕ, ◌+◌, ◌≤◌, ◌<◌}
+use Prim.Native.Nat.{ℕ, ◌+◌, ◌-◌, ◌≤◌, ◌<◌}
 use native.Mathlib.Omega.{arith}
 use lib.ListN.{get_or}
 use lib.Ieee.{Float, nan, binary64, add}
@@ -12,11 +12,11 @@ use Rattle.sync.proofs.Line.block_is_clear.Goals as goal
 
 -- what lies between the first place and the last
 within : (flags : List ℕ) (columns : List Float) (start rate : Float) (from first last : ℕ) → from + 28 ≤ 700 → Rising rate start columns
-    → first ≡ probe_of (add binary64 start (get_or columns from nan)) rate → last ≡ probe_of (add binary64 start (get_or columns (from + 27) nan)) rate
+    → first ≡ probe_of (add binary64 start (get_or columns from nan)) rate → last ≡ probe_of (add binary64 start (get_or columns (from + 28 - 1) nan)) rate
     → Clear flags first last → (x : ℕ) → from ≤ x → x < from + 28 → flag_at flags rate start (get_or columns x nan) ≡ 0
 unfolding flag_at
 within flags columns start rate from first last b r p q c x l h =
-    c (probe_of (add binary64 start (get_or columns x nan)) rate) (rw p (r from x l (omega arith))) (rw q (r x (from + 27) (omega arith) (omega arith)))
+    c (probe_of (add binary64 start (get_or columns x nan)) rate) (rw p (r from x l (omega arith))) (rw q (r x (from + 28 - 1) (omega arith) (omega arith)))
 
 pub returns : goal.returns
 returns c =

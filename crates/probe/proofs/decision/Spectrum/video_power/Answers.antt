@@ -21,3 +21,8 @@ pub returns : goal.returns
 returns c =
     let e : c.loop-k.k ≡ c.args.hi + 1 = omega arith in
     rw (← e) c.loop-k.invariant
+
+pub returns-2 : goal.returns-2
+returns-2 c =
+    let e : c.loop-k.k ≡ c.args.hi = omega arith in
+    rw (← e) (powers_more _ _ c.loop-k.k _ _ (omega arith) c.loop-k.invariant c.bin_power-p_raw.ensures)

@@ -1,16 +1,14 @@
--- `probe::window::Surroundings::sound_at` meets its contract. The three ways are before, in and after the sound.
+-- `probe::window::Surroundings::sound_at` meets its contract, before the sound and from its beginning on.
 -- Assumes nothing.
+use Rattle.std.proofs.Common.{arith, rules}
 use lib.Ieee.{of_bits}
-use Rattle.probe.proofs.Pairs.{sound_before, sound_in, sound_after}
+use Rattle.probe.proofs.Pairs.{sound_before, sound_from}
 use Rattle.probe.proofs.window.Surroundings.sound_at.Goals as goal
 
-pub returns-then-n-lt8 : goal.returns-then-n-lt8
+pub returns-in-Some : goal.returns-in-Some
 unfolding of_bits
-returns-then-n-lt8 c = sound_before _ _ c.args.i c.if-n-lt8.true
+returns-in-Some c = rw (← sound_from c.args.self.now.sound.now c.args.self.now.centre c.args.i c.in-Some.ensures.0, ← c.in-Some.ensures.1) (search rules)
 
-pub returns-then-at-self : goal.returns-then-at-self
-returns-then-at-self c = sound_in _ _ c.args.i c.if-n-lt8.false c.if-at-self.true
-
-pub returns-else-at-self : goal.returns-else-at-self
+pub returns-in-None : goal.returns-in-None
 unfolding of_bits
-returns-else-at-self c = sound_after _ _ c.args.i c.if-n-lt8.false c.if-at-self.false
+returns-in-None c = sound_before _ _ c.args.i (let h = c.in-None.ensures in omega arith)

@@ -1,0 +1,15 @@
+-- One more of a kind. Assumes nothing.
+use Rattle.std.proofs.Common.{rules, ◌≡◌, ℕ, zero, suc, ◌<◌, ◌≤◌, List, [], ◌∷◌, length, set, get_or, refl, ap}
+use Rattle.replay.specs.Counts.{more_by, more_of}
+
+pub one_more_of : {A : Type 0} (k : ℕ) (kinds : List (A × ℕ)) (d : A × ℕ) → k < length kinds → set kinds k ((get_or kinds k d).0, more_by 1 (get_or kinds k d).1) ≡ more_of k kinds
+unfolding more_of
+one_more_of k [] d h = absurd (search rules)
+one_more_of zero (kind ∷ kinds) d h = refl
+one_more_of (suc k) (kind ∷ kinds) d h = ap (λ l. kind ∷ l) (one_more_of k kinds d (search rules))
+
+pub none_more : {A : Type 0} (k : ℕ) (kinds : List (A × ℕ)) → length kinds ≤ k → kinds ≡ more_of k kinds
+unfolding more_of
+none_more k [] h = refl
+none_more zero (kind ∷ kinds) h = absurd (search rules)
+none_more (suc k) (kind ∷ kinds) h = ap (λ l. kind ∷ l) (none_more k kinds (search rules))
