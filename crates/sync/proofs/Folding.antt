@@ -1,12 +1,9 @@
 -- Laws of the final fold: a line is added to the counts, and after n lines each count is its column's sum. Assumes nothing.
-use mathlib.Core.Path.{◌≡◌, refl, ap, sym, subst, ◌∙◌}
-use mathlib.Core.Logic.{inl, inr, ◌⊎◌}
+use mathlib.Core.Path.{◌≡◌, ap, sym, ◌∙◌}
 use mathlib.Core.List.{List}
-use Prim.Native.Nat.{ℕ, zero, suc, ◌+◌, ◌*◌, ◌^◌, ◌≤◌, ◌<◌}
-use native.Mathlib.Nat.{zero-add, eq-or-lt_of_le}
+use Prim.Native.Nat.{ℕ, ◌+◌, ◌*◌, ◌^◌, ◌≤◌, ◌<◌}
+use native.Mathlib.Nat.{zero-add}
 use native.Mathlib.Omega.{arith}
-use denote.Param.Members.{Mut, Called}
-use Rattle.std.specs.Array.{MapsFrom, IsMapOf}
 use lib.ListN.{length, get_or}
 use lib.Seq.{ext_get_or}
 use lib.Ieee.{Float, nan, binary64, add}
@@ -15,21 +12,6 @@ use Rattle.columns.proofs.Lists.{length_list, get_d_list}
 use Rattle.pulse.proofs.Sums.{sum_more, sum_below}
 use Rattle.sync.specs.Fold.{line_seconds, column_seconds, flag_at, fold_flag, column_count, fold_of}
 use Rattle.sync.specs.Steps.{Added}
-
--- ---- what `map` made by a closure that gives f's values and stays as it is
-module _ {F A B : Type 0} (g : Mut F (A × Unit {0}) B) (made : F) (f : A → B) (gives : (x : A) (y : B) (next : F) → Called g made (x, tt) y next → (next ≡ made) × (y ≡ f x)) where
-  each_is : (xs : List A) (ys : List B) (i n : ℕ) (now : F) → now ≡ made → MapsFrom g now xs ys i n → (d : A) (e : B) (k : ℕ) → i ≤ k → k < i + n → get_or ys k e ≡ f (get_or xs k d)
-  each_is xs ys i zero now s h d e k l b = absurd (omega arith)
-  each_is xs ys i (suc n) now s h d e k l b =
-      let r = gives h.1 h.2 h.0 (subst (λ (p : F). Called g p (h.1, tt) h.2 h.0) s h.5) in
-      at (eq-or-lt_of_le l) r.1 (λ a. each_is xs ys (i + 1) n h.0 r.0 h.6 d e k (omega arith) (omega arith))
-    where
-      at : (i ≡ k) ⊎ (i < k) → h.2 ≡ f h.1 → (i < k → get_or ys k e ≡ f (get_or xs k d)) → get_or ys k e ≡ f (get_or xs k d)
-      at (inl q) v later = rw (← q) (h.4.1 e ∙ v ∙ ap f (sym (h.3.1 d)))
-      at (inr q) v later = later q
-
-  pub map_is : (xs : List A) (ys : List B) (n : ℕ) (d : A) (e : B) → IsMapOf g made xs ys n → (k : ℕ) → k < n → get_or ys k e ≡ f (get_or xs k d)
-  map_is xs ys n d e h k l = each_is xs ys 0 n made refl h.each d e k (omega arith) (omega arith)
 
 -- ---- the lines
 

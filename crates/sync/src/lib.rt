@@ -34,11 +34,17 @@ const BLOCK_COLUMNS: usize = 28;
 
 const BLOCKS: usize = 25;
 
-// The times of the 700 columns of a line, worked out once and not in each line.
+// The times of the 700 columns of a line, worked out once and not in each line. By number: `map` of an array copies it, and a feed then
+// takes more stack than the header says.
 fn column_seconds(line: f64) -> [f64; 700]
     ensures { result ≡ list_to (column_seconds line) 700 }
 {
-    columns::column_parts(700).map(|part| part * line)
+    let parts = columns::column_parts(700);
+    let mut seconds = [0.0; 700];
+    for x in 0..700 {
+        seconds[x] = parts[x] * line;
+    }
+    seconds
 }
 
 // Whether a test of 64 flags shows that none from `first` to `last` is set.

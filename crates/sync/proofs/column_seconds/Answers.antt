@@ -1,15 +1,25 @@
--- `sync::column_seconds` meets its contract. Assumes nothing.
-use Rattle.std.proofs.Common.{◌∙◌, rules}
-use lib.Ieee.{nan, mul, binary64}
-use Rattle.columns.specs.Columns.{column_part}
-use Rattle.columns.proofs.Lists.{get_d_list, is_list}
+-- Answers of the goals that the check leaves.
+use mathlib.Core.Path.{◌≡◌, refl}
+use mathlib.Core.List.{List}
+use Prim.Native.Nat.{ℕ, ◌<◌}
+use native.Mathlib.Omega.{arith}
+use lib.Ieee.{Float, mul, binary64}
+use lib.ListN.{get_or, length-set}
+use Rattle.columns.specs.Columns.{list_to, column_part}
+use Rattle.columns.proofs.Lists.{get_d_list, write_next}
 use Rattle.sync.specs.Fold.{column_seconds}
-use Rattle.sync.proofs.Folding.{map_is}
 use Rattle.sync.proofs.column_seconds.Goals as goal
 
-pub returns : goal.returns
+-- a part times the line is the column's time
+time_is : (line : Float) (x : ℕ) (parts : List Float) (d : Float) → x < 700 → parts ≡ list_to (column_part 700) 700 → mul binary64 (get_or parts x d) line ≡ column_seconds line x
 unfolding column_seconds
-returns c =
+time_is line x parts d h e = rw (e, get_d_list (column_part 700) 700 x d h)
+
+pub loop-x-init : goal.loop-x-init
+unfolding list_to
+loop-x-init c = (refl, refl)
+
+pub loop-x-preserved : goal.loop-x-preserved
+loop-x-preserved c =
     let line = c.args.line in
-    is_list (column_seconds line) c.map.result 700 nan c.map.ensures.items.long
-    (λ k l. map_is _ _ (λ part. mul binary64 part line) (λ x y next h. search rules) _ _ 700 nan nan c.map.ensures.items k l ∙ rw (c.column_parts.ensures, get_d_list (column_part 700) 700 k nan l))
+    (simp length-set c.loop-x.invariant.0, write_next (column_seconds line) c.loop-x.seconds c.loop-x.x _ (omega arith) c.loop-x.invariant.1 (time_is line c.loop-x.x c.column_parts-parts.result _ (omega arith) c.column_parts-parts.ensures))
