@@ -8,7 +8,7 @@ use borrow.Author.Tests.{eq-eqb, ne_eqb}
 use Rattle.std.specs.Prelude.{Err}
 use Rattle.limits.specs.declared.Refusal.TheVariants as why
 use Rattle.card.specs.declared.Card.{Card}
-use Rattle.card.specs.Card.{marked, card_of, wrong, write_answer, read_refusal, read_answer}
+use Rattle.card.specs.Card.{marked, card_of, wrong, write_answer, buffer_after, read_refusal, read_answer}
 
 module _ (c : Card) (size : ℕ) where
   pub write_12 : (size ≡ 56 → ⊥) → write_answer c size ≡ Err why.CardLength
@@ -18,6 +18,16 @@ module _ (c : Card) (size : ℕ) where
   pub write_14 : size ≡ 56 → wrong c ≡ true → write_answer c size ≡ Err why.CardField
   unfolding write_answer
   write_14 h w = rw (eq-eqb size 56 h, w)
+
+-- the buffer of a refused card is as it was
+module _ (c : Card) (out : List ℕ) where
+  pub kept_12 : (length out ≡ 56 → ⊥) → buffer_after c out ≡ out
+  unfolding buffer_after
+  kept_12 h = rw (write_12 c (length out) h)
+
+  pub kept_14 : length out ≡ 56 → wrong c ≡ true → buffer_after c out ≡ out
+  unfolding buffer_after
+  kept_14 h w = rw (write_14 c (length out) h w)
 
 module _ (bs : List ℕ) where
   pub read_12 : (length bs ≡ 56 → ⊥) → read_answer bs ≡ Err why.CardLength

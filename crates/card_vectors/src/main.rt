@@ -11,8 +11,14 @@ ghost use Rattle.std.specs.Prelude.{◌≡◌, length};
 
 use card::Card;
 use replay::tally::Verdict;
-use replay::{Case, Pattern};
+use replay::{Case, Limit, Longer, Pattern};
 use std::io;
+
+// No record has more bytes behind its words.
+const LIMIT: Limit = Limit {
+    most: 512,
+    longer: Longer::Cut,
+};
 
 // The bytes of a card's fields.
 const FIELD_BYTES: usize = 80;
@@ -71,26 +77,26 @@ fn fields_are_right(bytes: &[u8], fields: &[u8]) -> bool {
     }
 }
 
-fn read_is_right(case: &Case) -> bool {
-    let Some((bytes, fields)) = case.payload.split_at_checked(case.a as usize) else {
+fn read_is_right(case: &Case, payload: &[u8]) -> bool {
+    let Some((bytes, fields)) = payload.split_at_checked(case.a as usize) else {
         return false;
     };
     refusal_is_right(bytes, case.x) && fields_are_right(bytes, fields)
 }
 
-// The same of each value of the card's byte at place a.
-fn changes_are_right(mut case: Case) -> bool {
-    let Some(n) = case.payload.len().checked_sub(256) else {
+// The same of each value of the payload's byte at place a: a place behind the card is that of a refusal, and one behind the refusals
+// changes nothing.
+fn changes_are_right(case: &Case, payload: &mut [u8]) -> bool {
+    let Some(n) = payload.len().checked_sub(256) else {
         return false;
     };
     let place = case.a as usize;
-    let (card, refusals) = case.payload.split_at_mut(n);
-    for (value, refusal) in (0..=u8::MAX).zip(refusals.iter()) {
-        let Some(byte) = card.get_mut(place) else {
-            return false;
-        };
-        *byte = value;
-        if !refusal_is_right(card, u64::from(*refusal)) {
+    for value in 0..=u8::MAX {
+        if let Some(byte) = payload.get_mut(place) {
+            *byte = value;
+        }
+        let (card, refusals) = payload.split_at(n);
+        if !refusal_is_right(card, u64::from(refusals[usize::from(value)])) {
             return false;
         }
     }
@@ -100,8 +106,8 @@ fn changes_are_right(mut case: Case) -> bool {
 // ---- write
 
 // Whether a card is written into the first n places of a marked memory, or refused with x and nothing written.
-fn write_is_right(case: &Case) -> bool {
-    let Some((fields, bytes)) = case.payload.split_at_checked(FIELD_BYTES) else {
+fn write_is_right(case: &Case, payload: &[u8]) -> bool {
+    let Some((fields, bytes)) = payload.split_at_checked(FIELD_BYTES) else {
         return false;
     };
     if case.x == 0 && bytes.len() != card::CARD_BYTES {
@@ -125,11 +131,15 @@ fn is_marked_behind(memory: &[u8], bytes: &[u8]) -> bool {
 
 // ---- records
 
-fn is_right(case: Case) -> bool {
+// Whether a record's answer is right. One without its payload is wrong.
+fn is_right(case: &mut Case) -> bool {
+    let Some(mut payload) = case.payload.take() else {
+        return false;
+    };
     match case.op {
-        0 => read_is_right(&case),
-        1 => changes_are_right(case),
-        2 => write_is_right(&case),
+        0 => read_is_right(case, &payload),
+        1 => changes_are_right(case, &mut payload),
+        2 => write_is_right(case, &payload),
         _ => false,
     }
 }
@@ -159,9 +169,9 @@ fn main(rt: HostRuntime) -> io::Result<()> {
         "write_refused_12",
         "write_refused_14",
     ];
-    replay::run(&rt, rt.alloc(), &kinds, |case: Case| {
+    replay::run(&rt, rt.alloc(), &kinds, LIMIT, |mut case: Case| {
         let kind = kind(&case);
-        let right = is_right(case);
+        let right = is_right(&mut case);
         Ok(Verdict { kind, right })
     })
 }

@@ -7,9 +7,15 @@
 
 use dsp::Tone;
 use replay::tally::Verdict;
-use replay::{Case, Pattern, payload};
+use replay::{Case, Limit, Longer, Pattern, payload};
 use std::alloc::{AllocError, Global};
 use std::io;
+
+// No record has more bytes behind its words.
+const LIMIT: Limit = Limit {
+    most: 2048,
+    longer: Longer::Unread,
+};
 
 fn power_is_right(case: &Case, samples: &[f32], tone: Tone) -> bool {
     dsp::goertzel_power(samples, tone).has_pattern(case.x)
@@ -24,12 +30,13 @@ fn window_of(reals: &[u32]) -> [u32; 512] {
     window
 }
 
-fn window_is_right(case: &Case, patterns: &[u32], numbers: &[f32]) -> bool {
+// The window's record: so many samples, then sixteen real parts, and no byte more.
+fn window_is_right(case: &Case, payload: &[u8], patterns: &[u32], numbers: &[f32]) -> bool {
     let sounds = case.y as usize;
     let (Some(sound), Some(reals)) = (numbers.get(..sounds), patterns.get(sounds..)) else {
         return false;
     };
-    if reals.len() != 16 {
+    if reals.len() != 16 || payload.len() % 4 != 0 {
         return false;
     }
     let mut buffer = [1.0f32; 512];
@@ -45,14 +52,17 @@ fn decision_is_right(case: &Case, spectrum: &[f32]) -> bool {
         == case.x)
 }
 
-// Whether an operation gives the answer expected. An operation that there is not gives none.
+// Whether an operation gives the answer expected. An operation that there is not gives none, and a record without its payload is wrong.
 fn is_right(case: &Case, alloc: Global) -> Result<bool, AllocError> {
-    let patterns = payload::half_word_list(&case.payload, alloc)?;
+    let Some(payload) = &case.payload else {
+        return Ok(false);
+    };
+    let patterns = payload::half_word_list(payload, alloc)?;
     let numbers = payload::float_list(&patterns, alloc)?;
     Ok(match case.op {
         0 => power_is_right(case, &numbers, Tone::Hz1500),
         1 => power_is_right(case, &numbers, Tone::Hz2300),
-        2 => window_is_right(case, &patterns, &numbers),
+        2 => window_is_right(case, payload, &patterns, &numbers),
         3 => decision_is_right(case, &numbers),
         _ => false,
     })
@@ -66,7 +76,7 @@ fn main(rt: HostRuntime) -> io::Result<()> {
         "sync_window",
         "has_sync_at",
     ];
-    replay::run(&rt, alloc, &kinds, |case: Case| {
+    replay::run(&rt, alloc, &kinds, LIMIT, |case: Case| {
         let right = is_right(&case, alloc)?;
         Ok(Verdict {
             kind: case.op,

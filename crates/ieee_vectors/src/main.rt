@@ -40,10 +40,16 @@ fn main(rt: HostRuntime) -> io::Result<()> {
         "to_f64",
         "mul_add",
     ];
-    replay::run(&rt, rt.alloc(), &kinds, |vector: Vector| {
-        Ok(Verdict {
-            kind: vector.op,
-            right: is_right(vector),
-        })
-    })
+    replay::run(
+        &rt,
+        rt.alloc(),
+        &kinds,
+        replay::NO_PAYLOAD,
+        |vector: Vector| {
+            Ok(Verdict {
+                kind: vector.op,
+                right: is_right(vector),
+            })
+        },
+    )
 }

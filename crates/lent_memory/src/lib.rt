@@ -5,6 +5,7 @@ pub mod pieces;
 
 ghost use Rattle.std.specs.Prelude.{◌≡◌, true, All, replicate, IfOk, vec_len};
 ghost use Rattle.lent_memory.specs.Lent.{Fits, is_kept, work_value};
+ghost use Rattle.lent_memory.specs.Sums.{IsSumOf};
 
 use std::alloc::{AllocError, Global};
 
@@ -37,14 +38,16 @@ pub struct Memory {
 // The sums over all that a feed is lent.
 #[derive(Clone, Copy, PartialEq)]
 pub struct Sums {
-    store: u64,
-    audio: f64,
-    img: u64,
-    votes: u64,
+    pub store: u64,
+    pub audio: f64,
+    pub img: u64,
+    pub votes: u64,
 }
 
 // A sum over a memory: one changed value shows.
-fn sum<T: Copy + Into<u64>>(memory: &[T]) -> u64 {
+pub fn sum<T: Copy + Into<u64>>(memory: &[T]) -> u64
+    ensures { IsSumOf T.converts memory.now result }
+{
     memory
         .iter()
         .fold(0, |sum: u64, x| sum.wrapping_add((*x).into()))

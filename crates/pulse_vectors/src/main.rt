@@ -6,17 +6,23 @@
 
 use limits::Refusal;
 use replay::tally::Verdict;
-use replay::{Case, Pattern, payload};
+use replay::{Case, Limit, Longer, Pattern, payload};
 use std::alloc::{AllocError, Global};
 use std::io;
+
+// No record has more bytes behind its words.
+const LIMIT: Limit = Limit {
+    most: 262144,
+    longer: Longer::Cut,
+};
 
 // No fold has more counts.
 const MOST_COUNTS: usize = 65536;
 
 // The counts of a payload in form c.
-fn counts_of(case: &Case, alloc: Global) -> Result<Vec<u32>, AllocError> {
-    let numbers = payload::half_word_list(&case.payload, alloc)?;
-    if case.c == 0 {
+fn counts_of(c: u64, payload: &[u8], alloc: Global) -> Result<Vec<u32>, AllocError> {
+    let numbers = payload::half_word_list(payload, alloc)?;
+    if c == 0 {
         return Ok(numbers);
     }
     let mut counts = Vec::new(alloc);
@@ -48,14 +54,18 @@ fn edge_is_right(case: &Case, counts: &[u32]) -> bool {
     pulse::falling_edge_from_x_acc(counts) == Ok(case.x as usize)
 }
 
-// Whether an operation gives the answer expected. An operation that there is not gives none.
-fn is_right(case: &Case, counts: &[u32]) -> bool {
-    match case.op {
-        0 => window_is_right(case, counts),
-        1 => quality_is_right(case, counts),
-        2 => edge_is_right(case, counts),
+// Whether an operation gives the answer expected. An operation that there is not gives none, and a record without its payload is wrong.
+fn is_right(case: &Case, alloc: Global) -> Result<bool, AllocError> {
+    let Some(payload) = &case.payload else {
+        return Ok(false);
+    };
+    let counts = counts_of(case.c, payload, alloc)?;
+    Ok(match case.op {
+        0 => window_is_right(case, &counts),
+        1 => quality_is_right(case, &counts),
+        2 => edge_is_right(case, &counts),
         _ => false,
-    }
+    })
 }
 
 fn main(rt: HostRuntime) -> io::Result<()> {
@@ -65,11 +75,10 @@ fn main(rt: HostRuntime) -> io::Result<()> {
         "sync_quality",
         "falling_edge_from_x_acc",
     ];
-    replay::run(&rt, alloc, &kinds, |case: Case| {
-        let counts = counts_of(&case, alloc)?;
+    replay::run(&rt, alloc, &kinds, LIMIT, |case: Case| {
         Ok(Verdict {
             kind: case.op,
-            right: is_right(&case, &counts),
+            right: is_right(&case, alloc)?,
         })
     })
 }

@@ -1,4 +1,5 @@
 -- Lemmas.
 mod Counting
 mod Filling
+mod Naming
 mod Runs

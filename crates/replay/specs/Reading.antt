@@ -1,9 +1,22 @@
 -- What is read of a file's known bytes. Definitions only.
-use Rattle.std.specs.Prelude.{◌≡◌, ℕ, List, length, Option, None, Some}
+use Rattle.std.specs.Prelude.{◌≡◌, ℕ, ◌<◌, ◌≤◌, List, length, Option, None, Some, vec_len, Vec}
 use Rattle.std.specs.Io.KnownBytes.{Consumes, IsAtEnd}
 use Rattle.words.specs.Words.{little_endian}
+use Rattle.replay.specs.declared.Fault.{Fault}
+use Rattle.replay.specs.declared.Fault.TheVariants.{Cut, Unread}
 
 -- a word is the eight bytes that the file loses, and there is none only where it was at its end
 abbrev pub IsWordRead : Option (List ℕ) → Option (List ℕ) → Option ℕ → Type 0
 IsWordRead before after None = IsAtEnd before
 IsWordRead before after (Some w) = (bytes : List ℕ) × (length bytes ≡ 8) × (little_endian bytes ≡ w) × Consumes before after bytes
+
+-- bytes are cut only where the file has come to its end before them. No record has more than 262144
+abbrev pub IsCutAtEnd : ℕ → Option (List ℕ) → Fault → Type 0
+IsCutAtEnd n after Cut = n ≤ 262144 → IsAtEnd after
+IsCutAtEnd n after (Unread error) = Unit
+
+-- a payload is the n bytes that the file loses, at most so many. One that is longer is not read, and the file stays as it is. Else there is
+-- none only where the file has come to its end before it
+abbrev pub IsPayloadRead : {A : Type 0} → ℕ → ℕ → Option (List ℕ) → Option (List ℕ) → Option (Vec ℕ A) → Type 0
+IsPayloadRead n most before after None = (most < n → after ≡ before) × (n ≤ most → n ≤ 262144 → IsAtEnd after)
+IsPayloadRead n most before after (Some v) = (n ≤ most) × (vec_len v ≡ n) × Consumes before after v.items

@@ -7,9 +7,10 @@
 pub mod payload;
 pub mod tally;
 
-ghost use Rattle.std.specs.Prelude.{◌≡◌, ◌≤◌, length, take, ◌<◌, IfOk, vec_len};
+ghost use Rattle.std.specs.Prelude.{◌≡◌, ◌≤◌, length, take, ◌<◌, IfErr, IfOk, vec_len};
 ghost use Rattle.std.specs.Io.KnownBytes.{Consumes, IsAtEnd};
-ghost use Rattle.replay.specs.Reading.{IsWordRead};
+ghost use Rattle.replay.specs.Reading.{IsWordRead, IsCutAtEnd, IsPayloadRead};
+ghost use Rattle.replay.specs.declared.Fault.TheVariants.{Unread};
 ghost use Rattle.replay.specs.Optional.{optional_of, has_bits_or_none};
 
 use std::alloc::{AllocError, Global};
@@ -29,7 +30,7 @@ pub struct Vector {
     pub expected: u64,
 }
 
-// A long record.
+// A long record. It has no payload where the file does not hold that whole, or where it is longer than the program reads.
 #[derive(Drop)]
 pub struct Case {
     pub op: u64,
@@ -39,8 +40,30 @@ pub struct Case {
     pub x: u64,
     pub y: u64,
     pub z: u64,
-    pub payload: Vec<u8>,
+    pub payload: Option<Vec<u8>>,
 }
+
+// What is made of a record whose payload is longer than the program reads.
+#[derive(Clone, Copy)]
+pub enum Longer {
+    // it is taken as cut
+    Cut,
+    // it is read without its payload, and the next record begins where that would
+    Unread,
+}
+
+// How many bytes of a payload a program reads at most.
+#[derive(Clone, Copy)]
+pub struct Limit {
+    pub most: u64,
+    pub longer: Longer,
+}
+
+// A short record has no payload.
+pub const NO_PAYLOAD: Limit = Limit {
+    most: 0,
+    longer: Longer::Cut,
+};
 
 // Why a record is not read.
 #[derive(Drop)]
@@ -51,12 +74,16 @@ pub enum Fault {
 }
 
 impl From<io::Error> for Fault {
+    ghost from_gives = { λ error fault. fault ≡ Unread error };
+
     fn from(error: io::Error) -> Fault {
         Fault::Unread(error)
     }
 }
 
 impl From<AllocError> for Fault {
+    ghost from_gives = { λ _ fault. (error : _) × fault ≡ Unread error };
+
     fn from(error: AllocError) -> Fault {
         Fault::Unread(io::Error::from(error))
     }
@@ -65,11 +92,21 @@ impl From<AllocError> for Fault {
 // A record of a vector file, which begins with its operation.
 pub trait Record: Sized + Drop {
     // The record of operation `op`, of which the file has the rest.
-    fn with_rest<R: Read>(op: u64, file: &mut R, alloc: Global) -> Result<Self, Fault>;
+    fn with_rest<R: Read>(
+        op: u64,
+        file: &mut R,
+        limit: Limit,
+        alloc: Global,
+    ) -> Result<Self, Fault>;
 }
 
 impl Record for Vector {
-    fn with_rest<R: Read>(op: u64, file: &mut R, _alloc: Global) -> Result<Vector, Fault> {
+    fn with_rest<R: Read>(
+        op: u64,
+        file: &mut R,
+        _limit: Limit,
+        _alloc: Global,
+    ) -> Result<Vector, Fault> {
         Ok(Vector {
             op,
             a: word_within(file)?,
@@ -81,11 +118,16 @@ impl Record for Vector {
 }
 
 impl Record for Case {
-    fn with_rest<R: Read>(op: u64, file: &mut R, alloc: Global) -> Result<Case, Fault> {
+    fn with_rest<R: Read>(
+        op: u64,
+        file: &mut R,
+        limit: Limit,
+        alloc: Global,
+    ) -> Result<Case, Fault> {
         let (a, b, c) = (word_within(file)?, word_within(file)?, word_within(file)?);
         let (x, y, z) = (word_within(file)?, word_within(file)?, word_within(file)?);
         let length = word_within(file)?;
-        let payload = bytes_within(file, length, alloc)?;
+        let payload = payload_within(file, length, limit, alloc)?;
         Ok(Case {
             op,
             a,
@@ -150,7 +192,8 @@ const MOST_BYTES: u64 = 262144;
 
 // The next n bytes of a record that has begun.
 pub fn bytes_within<R: Read>(file: &mut R, n: u64, alloc: Global) -> Result<Vec<u8>, Fault>
-    ensures { IfOk result (λ v. (vec_len v ≡ n) × Consumes (R.remaining file.old) (R.remaining file.new) v.items) }
+    ensures bytes { IfOk result (λ v. (vec_len v ≡ n) × Consumes (R.remaining file.old) (R.remaining file.new) v.items) }
+    ensures cut { IfErr result (IsCutAtEnd n (R.remaining file.new)) }
 {
     if n > MOST_BYTES {
         return Err(Fault::Cut);
@@ -162,11 +205,34 @@ pub fn bytes_within<R: Read>(file: &mut R, n: u64, alloc: Global) -> Result<Vec<
     Ok(bytes)
 }
 
+// The payload of n bytes of a record that has begun. One that the file does not hold whole is none: the file is at its end then.
+fn payload_within<R: Read>(
+    file: &mut R,
+    n: u64,
+    limit: Limit,
+    alloc: Global,
+) -> Result<Option<Vec<u8>>, Fault>
+    ensures { IfOk result (IsPayloadRead n limit.most (R.remaining file.old) (R.remaining file.new)) }
+{
+    if n > limit.most {
+        return match limit.longer {
+            Longer::Cut => Err(Fault::Cut),
+            Longer::Unread => Ok(None),
+        };
+    }
+    match bytes_within(file, n, alloc) {
+        Ok(bytes) => Ok(Some(bytes)),
+        Err(Fault::Cut) => Ok(None),
+        Err(fault) => Err(fault),
+    }
+}
+
 // Replays the records of the file `vectors`, and writes how many of each kind named there were.
 pub fn run<T: Record, R: Files + Print + Eprint, F: FnMut(T) -> io::Result<Verdict>>(
     rt: &R,
     alloc: Global,
     kinds: &[&str],
+    limit: Limit,
     answer: F,
 ) -> io::Result<()>
     requires { F.IsAlwaysCallable answer }
@@ -174,8 +240,8 @@ pub fn run<T: Record, R: Files + Print + Eprint, F: FnMut(T) -> io::Result<Verdi
     let Some(file) = opened(rt, "vectors") else {
         return Ok(());
     };
-    let mut tally = Tally::of(kinds, alloc)?;
-    each_record(file, alloc, &mut tally, answer)?;
+    let mut tally = Tally::of(kinds);
+    each_record(file, alloc, limit, &mut tally, answer)?;
     tally.report(rt)
 }
 
@@ -183,6 +249,7 @@ pub fn run<T: Record, R: Files + Print + Eprint, F: FnMut(T) -> io::Result<Verdi
 pub fn each_record<T: Record, F: FnMut(T) -> io::Result<Verdict>>(
     file: impl Read + Drop,
     alloc: Global,
+    limit: Limit,
     tally: &mut Tally<'_>,
     mut answer: F,
 ) -> io::Result<()>
@@ -191,7 +258,7 @@ pub fn each_record<T: Record, F: FnMut(T) -> io::Result<Verdict>>(
     let mut file = BufReader::new(alloc, file)?;
     // a count and no `while let`, the library's own form for a reader that may not end: no file has 2^64 records
     for _ in 0..u64::MAX {
-        match next_record(&mut file, alloc) {
+        match next_record(&mut file, limit, alloc) {
             Ok(Some(record)) => tally.count(answer(record)?),
             Ok(None) => return Ok(()),
             Err(Fault::Cut) => {
@@ -205,9 +272,13 @@ pub fn each_record<T: Record, F: FnMut(T) -> io::Result<Verdict>>(
 }
 
 // The next record, none at the file's end.
-pub fn next_record<T: Record, R: Read>(file: &mut R, alloc: Global) -> Result<Option<T>, Fault> {
+pub fn next_record<T: Record, R: Read>(
+    file: &mut R,
+    limit: Limit,
+    alloc: Global,
+) -> Result<Option<T>, Fault> {
     match next_word(file)? {
-        Some(op) => Ok(Some(T::with_rest(op, file, alloc)?)),
+        Some(op) => Ok(Some(T::with_rest(op, file, limit, alloc)?)),
         None => Ok(None),
     }
 }
@@ -232,7 +303,7 @@ pub fn is_recorded(x: Option<f64>, word: u64) -> bool
 
 #[cfg(test)]
 mod tests {
-    use super::{Case, Vector, bytes_within, each_record, next_record};
+    use super::{Case, Limit, Longer, NO_PAYLOAD, Vector, bytes_within, each_record, next_record};
     use crate::tally::{Tally, Verdict};
     use std::test::Fail;
 
@@ -259,34 +330,50 @@ mod tests {
         assert_eq!(rt; bytes.as_slice(), [1, 2].as_slice());
 
         let mut file = SHORT.as_slice();
-        let Ok(Some(record)) = next_record::<Vector, _>(&mut file, rt.alloc()) else {
+        let Ok(Some(record)) = next_record::<Vector, _>(&mut file, NO_PAYLOAD, rt.alloc()) else {
             panic!(rt; "no short record");
         };
         let words = [record.op, record.a, record.b, record.c, record.expected];
         assert_eq!(rt; words, [3, 1, 258, 4, 5]);
 
         let mut file = LONG.as_slice();
-        let Ok(Some(record)) = next_record::<Case, _>(&mut file, rt.alloc()) else {
+        let limit = Limit {
+            most: 3,
+            longer: Longer::Cut,
+        };
+        let Ok(Some(record)) = next_record::<Case, _>(&mut file, limit, rt.alloc()) else {
             panic!(rt; "no long record");
         };
         let words = [
             record.op, record.a, record.b, record.c, record.x, record.y, record.z,
         ];
         assert_eq!(rt; words, [3, 1, 258, 4, 5, 6, 7]);
-        assert_eq!(rt; record.payload.as_slice(), [8, 9, 10].as_slice());
-        assert!(rt; matches!(next_record::<Case, _>(&mut file, rt.alloc()), Ok(None)));
+        let payload = record.payload.ok_or("no payload")?;
+        assert_eq!(rt; payload.as_slice(), [8, 9, 10].as_slice());
+        assert!(rt;
+            matches!(
+                next_record::<Case, _>(&mut file, limit, rt.alloc()),
+                Ok(None)
+            )
+        );
         Ok(())
     }
 
     #[test]
     fn records_are_tallied(rt: HostRuntime) -> Result<(), Fail> {
-        let mut tally = Tally::of(&[""; 12], rt.alloc())?;
-        each_record(SHORT.as_slice(), rt.alloc(), &mut tally, |record: Vector| {
-            Ok(Verdict {
-                kind: record.op,
-                right: record.expected == 5,
-            })
-        })?;
+        let mut tally = Tally::of(&[""; 12]);
+        each_record(
+            SHORT.as_slice(),
+            rt.alloc(),
+            NO_PAYLOAD,
+            &mut tally,
+            |record: Vector| {
+                Ok(Verdict {
+                    kind: record.op,
+                    right: record.expected == 5,
+                })
+            },
+        )?;
         assert_eq!(rt; (tally.seen, tally.wrong), (3, 2));
         assert_eq!(rt; tally.kinds.len(), 12);
         for (kind, n) in tally.kinds.iter().zip([0, 0, 1, 1, 0, 0, 0, 0, 0, 0, 0, 0]) {

@@ -7,8 +7,20 @@ mod session_card;
 use lent_memory::pieces::{self, Piece};
 use lent_memory::{FLAG_MARK, Memory, SAMPLE_MARK, Sizes, Sums};
 use limits::{Ending, Refusal};
+use plain::Phase;
 use replay::Case;
 use session::Session;
+
+// What stands for a session before the first is open. It takes nothing.
+const UNOPENED: Session = Session {
+    mode: 0,
+    anchor: 0,
+    capacity: 0,
+    taken: 0,
+    evaluations: 0,
+    streak: 0,
+    phase: Phase::Unfound,
+};
 
 // The session that is replayed, if one is open, and the memory that its calls are lent.
 #[derive(Drop)]
@@ -66,20 +78,19 @@ impl Replayed {
         }
     }
 
-    // Whether an opening is right: in mode a, with anchor b, over stores of the lengths c, and with these first samples.
+    // Whether an opening is right: in mode a, with anchor b, over stores of the lengths c, and with these first samples. One that is not
+    // to be refused begins a session over marked memory, whatever it answers.
     pub fn open(&mut self, case: &Case, first: &[f32]) -> bool {
         let (store, audio) = pieces::halves(case.c);
         if store > self.memory.store.len() || audio > self.memory.audio.len() {
             return false;
         }
-        // a number above 15 is to be refused, and no call can be given one above 255
-        let Ok(mode) = u8::try_from(case.a) else {
-            return false;
-        };
+        // any number above 15 is to be refused, and no call can be given one above 255
+        let mode = u8::try_from(case.a).unwrap_or(u8::MAX);
         let store = &self.memory.store[..store];
         let audio = &mut self.memory.audio[..audio];
         let before = lent_memory::sum_of_samples(audio);
-        match session::open(mode, case.b, store, audio, first) {
+        let right = match session::open(mode, case.b, store, audio, first) {
             Ok(session) => {
                 self.session = Some(session);
                 case.x == 0 && has_begun(mode, audio, first, before)
@@ -87,14 +98,16 @@ impl Replayed {
             Err(refusal) => {
                 is_recorded(refusal, case.x) && lent_memory::sum_of_samples(audio) == before
             }
+        };
+        if case.x == 0 {
+            self.memory.mark();
         }
+        right
     }
 
-    // Whether a feed is right: it keeps what it takes, or changes nothing where it is refused. One before an opening is wrong.
+    // Whether a feed is right: it keeps what it takes, or changes nothing where it is refused.
     pub fn feed(&mut self, case: &Case, piece: &Piece) -> bool {
-        let Some(session) = self.session else {
-            return false;
-        };
+        let session = self.session.unwrap_or(UNOPENED);
         let (store, audio) = pieces::halves(case.b);
         let (img, votes) = pieces::halves(case.c);
         let lent = Sizes {
@@ -130,19 +143,20 @@ impl Replayed {
     }
 
     // Whether a read is right, and the session's card with it. A report has cleared the work memory, and nothing else writes it. A
-    // read before an opening is wrong.
+    // record without its payload is wrong.
     pub fn read(&self, case: &Case) -> bool {
-        let Some(session) = self.session else {
+        let Some(payload) = &case.payload else {
             return false;
         };
+        let session = self.session.unwrap_or(UNOPENED);
         let right = match session.read() {
             Ok(reading) => {
                 case.x == 0
-                    && reading::is_right(reading, case.y, &case.payload)
+                    && reading::is_right(reading, case.y, payload)
                     && self.memory.work_is(case.y == Ending::Reported as u64)
             }
             Err(refusal) => is_recorded(refusal, case.x) && self.memory.work_is(false),
         };
-        right && session_card::is_right(session, case)
+        right && session_card::is_right(session, case.x, payload)
     }
 }

@@ -3,12 +3,14 @@ ghost use Rattle.std.specs.Prelude.{◌≡◌, ◌+◌, ◌*◌, ◌≤◌, true
 ghost use Rattle.modespec.specs.Sizes.{robot};
 ghost use Rattle.session_parts.specs.Stores.{kept_at};
 
-// Writes a piece at the front of a tail, of flags or of samples.
+// Writes a piece at the front of a tail, of flags or of samples. By number: `copy_from_slice` would have a host's linker look for memmove too.
 pub fn write<T: Copy>(tail: &mut [T], piece: &[T])
     requires { length piece.now ≤ length tail.old }
     ensures { tail.new ≡ piece.now ++ drop (length piece.now) tail.old }
 {
-    tail[..piece.len()].copy_from_slice(piece);
+    for (i, x) in piece.iter().enumerate() {
+        tail[i] = *x;
+    }
 }
 
 // The samples taken, from a place of the sample store on. Only Robot 24 and 36 keep them.

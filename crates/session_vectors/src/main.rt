@@ -10,10 +10,19 @@
 use lent_memory::pieces::Piece;
 use lent_memory::{Memory, Sizes};
 use replay::tally::Verdict;
-use replay::{Case, payload};
+use replay::{Case, Limit, Longer, payload};
 use session_calls::Replayed;
 use std::alloc::{AllocError, Global};
 use std::io;
+
+// No record has more bytes behind its words.
+const LIMIT: Limit = Limit {
+    most: 16384,
+    longer: Longer::Unread,
+};
+
+// No opening has more first samples.
+const MOST_FIRST: usize = 8;
 
 // The most that a record lends.
 const MOST: Sizes = Sizes {
@@ -31,32 +40,27 @@ struct Calls {
 }
 
 impl Calls {
-    // An opening. One that is not to be refused begins a session over marked memory.
-    fn open_is_right(&mut self, case: &Case) -> Result<bool, AllocError> {
-        let patterns = payload::half_word_list(&case.payload, self.alloc)?;
-        let first = payload::float_list(&patterns, self.alloc)?;
-        if first.len() as u64 != case.y {
-            return Ok(false);
-        }
-        let right = self.replayed.open(case, &first);
-        if case.x == 0 {
-            self.replayed.memory.mark();
-        }
-        Ok(right)
+    fn open_is_right(&mut self, case: &Case, payload: &[u8]) -> bool {
+        let mut first = [0.0f32; MOST_FIRST];
+        let n = payload::half_words(payload, &mut first);
+        n as u64 == case.y && self.replayed.open(case, &first[..n])
     }
 
-    fn feed_is_right(&mut self, case: &Case) -> Result<bool, AllocError> {
-        match Piece::read(case.a, &case.payload, self.alloc)? {
+    fn feed_is_right(&mut self, case: &Case, payload: &[u8]) -> Result<bool, AllocError> {
+        match Piece::read(case.a, payload, self.alloc)? {
             Some(piece) => Ok(self.replayed.feed(case, &piece)),
             None => Ok(false),
         }
     }
 
-    // Whether the answer of a call is right. An operation that there is not is wrong.
+    // Whether the answer of a call is right. An operation that there is not is wrong, and so is a record without its payload.
     fn is_right(&mut self, case: &Case) -> Result<bool, AllocError> {
+        let Some(payload) = &case.payload else {
+            return Ok(false);
+        };
         match case.op {
-            0 => self.open_is_right(case),
-            1 => self.feed_is_right(case),
+            0 => Ok(self.open_is_right(case, payload)),
+            1 => self.feed_is_right(case, payload),
             2 => Ok(self.replayed.read(case)),
             _ => Ok(false),
         }
@@ -67,7 +71,7 @@ fn main(rt: HostRuntime) -> io::Result<()> {
     let alloc = rt.alloc();
     let replayed = Replayed::new(Memory::new(MOST, alloc)?);
     let mut calls = Calls { replayed, alloc };
-    replay::run(&rt, alloc, &["open", "feed", "read"], |case: Case| {
+    replay::run(&rt, alloc, &["open", "feed", "read"], LIMIT, |case: Case| {
         Ok(Verdict {
             kind: case.op,
             right: calls.is_right(&case)?,

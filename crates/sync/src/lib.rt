@@ -135,14 +135,15 @@ fn rises(rate: f64, line: f64) -> bool
     is_positive(rate) && is_positive(line)
 }
 
-// The counts of n lines of 700 columns.
-fn fold(flags: &[u8], rate: f64, line: f64, n: usize) -> [u32; 700]
-    requires { n ≤ 65536 }
-    ensures { result ≡ fold_of flags.now rate line n }
+// The counts of n lines of 700 columns. They are lent, all 0: handed back, the array would be copied, and a feed take 2,800 bytes more
+// of stack.
+fn fold(counts: &mut [u32; 700], flags: &[u8], rate: f64, line: f64, n: usize)
+    requires clear { (x : ℕ) → get_or counts.old x 0 ≡ 0 }
+    requires lines_bound { n ≤ 65536 }
+    ensures { counts.new ≡ fold_of flags.now rate line n }
 {
     let columns = column_seconds(line);
     let rising = rises(rate, line);
-    let mut counts = [0; 700];
     for y in 0..n {
         let line = Line {
             flags,
@@ -151,9 +152,8 @@ fn fold(flags: &[u8], rate: f64, line: f64, n: usize) -> [u32; 700]
             rate,
             rising,
         };
-        line.fold(&mut counts);
+        line.fold(counts);
     }
-    counts
 }
 
 // ---- the skip
@@ -184,7 +184,8 @@ fn aligned(flags: &[u8], spec: ModeSpec, passes: Passes) -> SyncResult
     let slant_deg = passes.slant_deg;
     let image_lines = spec.image_lines as usize;
     let radio_lines = spec.radio_lines() as usize;
-    let counts = fold(flags, rate, spec.line_seconds, image_lines);
+    let mut counts = [0; 700];
+    fold(&mut counts, flags, rate, spec.line_seconds, image_lines);
     SyncResult {
         adjusted_rate_hz: rate,
         skip_samples: skip_samples_for(pulse::falling_edge(&counts), spec, rate),

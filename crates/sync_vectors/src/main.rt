@@ -3,10 +3,16 @@
 #![tactic(auto)]
 
 use replay::tally::Verdict;
-use replay::{Case, Pattern, payload};
+use replay::{Case, Limit, Longer, Pattern, payload};
 use std::alloc::{AllocError, Global};
 use std::io;
 use sync::SyncResult;
+
+// No record has more bytes behind its words.
+const LIMIT: Limit = Limit {
+    most: 262144,
+    longer: Longer::Cut,
+};
 
 const MOST_FLAGS: usize = 1000000;
 
@@ -17,18 +23,24 @@ fn result_is_right(found: SyncResult, case: &Case) -> bool {
         && found.sync_quality.has_pattern(replay::low_half(case.c))
 }
 
-fn flags_of(case: &Case, alloc: Global) -> Result<Vec<u8>, AllocError> {
-    let runs = payload::half_word_list(&case.payload, alloc)?;
+fn flags_of(payload: &[u8], alloc: Global) -> Result<Vec<u8>, AllocError> {
+    let runs = payload::half_word_list(payload, alloc)?;
     payload::flag_list(&runs, MOST_FLAGS, alloc)
 }
 
-fn is_right(case: &Case, flags: &[u8], img: &mut [u8], votes: &mut [u16]) -> bool {
-    let Ok(mode) = u8::try_from(case.a) else {
-        return false;
+// Whether a record's answer is right. One without its payload is wrong.
+fn is_right(
+    case: &Case,
+    img: &mut [u8],
+    votes: &mut [u16],
+    alloc: Global,
+) -> Result<bool, AllocError> {
+    let (Some(payload), Ok(mode)) = (&case.payload, u8::try_from(case.a)) else {
+        return Ok(false);
     };
-    sync::find_sync(flags, f64::from_pattern(case.b), mode, img, votes).is_ok_and(
-        |found| result_is_right(found, case),
-    )
+    let flags = flags_of(payload, alloc)?;
+    let answer = sync::find_sync(&flags, f64::from_pattern(case.b), mode, img, votes);
+    Ok(answer.is_ok_and(|found| result_is_right(found, case)))
 }
 
 // The work memory starts with anything.
@@ -37,11 +49,10 @@ fn main(rt: HostRuntime) -> io::Result<()> {
     let mut img = vec![in alloc; 7u8; limits::IMG_BYTES]?;
     let mut votes = vec![in alloc; 7u16; limits::VOTE_CELLS]?;
     let kinds = ["no_slant", "slant"];
-    replay::run(&rt, alloc, &kinds, |case: Case| {
-        let flags = flags_of(&case, alloc)?;
+    replay::run(&rt, alloc, &kinds, LIMIT, |case: Case| {
         Ok(Verdict {
             kind: u64::from(replay::optional(case.y).is_some()),
-            right: is_right(&case, &flags, &mut img, &mut votes),
+            right: is_right(&case, &mut img, &mut votes, alloc)?,
         })
     })
 }

@@ -4,12 +4,11 @@ use native.Mathlib.Omega.{arith}
 use Rattle.pulse.proofs.Sums.{sum_none}
 use Rattle.sync.specs.Fold.{line_seconds}
 use Rattle.sync.proofs.Folding.{lines_more, fold_is, count_below}
-use Rattle.sync.proofs.Whole.{zeros_at}
 use Rattle.sync.proofs.Rising.{line_rises}
 use Rattle.sync.proofs.fold.Goals as goal
 
 pub loop-y-init : goal.loop-y-init
-loop-y-init c = (refl, λ x l. zeros_at 700 x ∙ sum_none _ _)
+loop-y-init c = (omega arith, λ x l. c.requires.clear x ∙ sum_none _ _)
 
 pub invariant_of-line : goal.invariant_of-line
 unfolding line_seconds

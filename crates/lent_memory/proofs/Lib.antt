@@ -1,0 +1,2 @@
+-- Lemmas.
+mod Summing
