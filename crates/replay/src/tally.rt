@@ -72,7 +72,7 @@ impl<'a> Tally<'a> {
     pub fn count_cut(&mut self)
         ensures seen { self.new.seen ≡ more_by 1 self.old.seen }
         ensures wrong { self.new.wrong ≡ more_by 1 self.old.wrong }
-        ensures kinds { take self.new.named self.new.kinds ≡ take self.old.named self.old.kinds }
+        ensures kinds { (self.new.kinds ≡ self.old.kinds) × (self.new.named ≡ self.old.named) }
     {
         self.seen = self.seen.wrapping_add(1);
         self.wrong = self.wrong.wrapping_add(1);
