@@ -390,8 +390,10 @@ pub fn line_samples(spec: ModeSpec) -> f64
     spec.line_seconds * limits::WORKING_SAMPLE_RATE_HZ
 }
 
-// w: the flags of one evaluation's window. The Rust's + 1 must not wrap.
+// w: the flags of one evaluation's window. The Rust's + 1 must not wrap. `inline`: for a call, `open` and `feed` would write the row to
+// the stack.
 #[tactic(auto, unfolding(crate::specs::Sizes::window_probes, crate::specs::Literals::of_bits))]
+#[inline]
 fn window_probes(spec: ModeSpec) -> usize
     requires { size.window_probes spec < 2 ^ 64 }
     ensures { result ≡ size.window_probes spec }
@@ -447,8 +449,10 @@ pub fn line_width(spec: ModeSpec) -> usize
     width.max(1)
 }
 
-// Columns that a sync pulse spans among n columns of a line: at least 1, and at most n where n is not 0.
+// Columns that a sync pulse spans among n columns of a line: at least 1, and at most n where n is not 0. `inline` for the stack, as
+// window_probes.
 #[tactic(auto, unfolding(crate::specs::Sizes::pulse_columns, crate::specs::Literals::of_bits))]
+#[inline]
 pub fn pulse_columns(spec: ModeSpec, n: usize) -> usize
     ensures { result ≡ size.pulse_columns spec n }
 {

@@ -9,7 +9,7 @@ pub mod tally;
 
 ghost use Rattle.std.specs.Prelude.{◌≡◌, ◌≤◌, length, take, ◌<◌, IfErr, IfOk, vec_len};
 ghost use Rattle.std.specs.Io.KnownBytes.{Consumes, IsAtEnd};
-ghost use Rattle.replay.specs.Reading.{IsWordRead, IsCutAtEnd, IsPayloadRead};
+ghost use Rattle.replay.specs.Reading.{IsWordRead, IsCutAtEnd, IsPayloadRead, IsCutAtPayload};
 ghost use Rattle.replay.specs.declared.Fault.TheVariants.{Unread};
 ghost use Rattle.replay.specs.Optional.{optional_of, has_bits_or_none};
 
@@ -205,14 +205,16 @@ pub fn bytes_within<R: Read>(file: &mut R, n: u64, alloc: Global) -> Result<Vec<
     Ok(bytes)
 }
 
-// The payload of n bytes of a record that has begun. One that the file does not hold whole is none: the file is at its end then.
+// The payload of n bytes of a record that has begun. One that the file does not hold whole is none: the file is at its end then. One that
+// is longer than `limit` reads is none too, or the record is cut.
 fn payload_within<R: Read>(
     file: &mut R,
     n: u64,
     limit: Limit,
     alloc: Global,
 ) -> Result<Option<Vec<u8>>, Fault>
-    ensures { IfOk result (IsPayloadRead n limit.most (R.remaining file.old) (R.remaining file.new)) }
+    ensures read { IfOk result (IsPayloadRead n limit (R.remaining file.old) (R.remaining file.new)) }
+    ensures cut { IfErr result (IsCutAtPayload n limit (R.remaining file.old) (R.remaining file.new)) }
 {
     if n > limit.most {
         return match limit.longer {
@@ -378,6 +380,37 @@ mod tests {
         assert_eq!(rt; tally.kinds.len(), 12);
         for (kind, n) in tally.kinds.iter().zip([0, 0, 1, 1, 0, 0, 0, 0, 0, 0, 0, 0]) {
             assert_eq!(rt; kind.1, n);
+        }
+        Ok(())
+    }
+
+    // A payload that is there, one that the file does not hold whole, and one longer than is read, which cuts the record or is left unread:
+    // its bytes begin the next record then, which is cut. A record without a payload counts as right here.
+    #[test]
+    fn payload_may_be_missing(rt: HostRuntime) -> Result<(), Fail> {
+        for (length, most, longer, seen, wrong, counted) in [
+            (67, 3, Longer::Cut, 1, 1, 1),
+            (66, 3, Longer::Cut, 1, 0, 1),
+            (67, 2, Longer::Cut, 1, 1, 0),
+            (67, 2, Longer::Unread, 2, 1, 1),
+        ] {
+            let mut tally = Tally::of(&[""; 12]);
+            let limit = Limit { most, longer };
+            each_record(
+                &LONG[..length],
+                rt.alloc(),
+                limit,
+                &mut tally,
+                |record: Case| {
+                    Ok(Verdict {
+                        kind: record.op,
+                        right: record.payload.is_none(),
+                    })
+                },
+            )?;
+            assert_eq!(rt; (tally.seen, tally.wrong), (seen, wrong));
+            let (_, of_kind_3) = tally.kinds[3];
+            assert_eq!(rt; of_kind_3, counted);
         }
         Ok(())
     }
