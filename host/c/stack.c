@@ -13,7 +13,7 @@
 #include <sys/mman.h>
 #include <ucontext.h>
 
-/* The header's measured figures are those of gcc 12; another compiler's calls may take
+/* The header's figures were measured with gcc 12; another compiler's calls may take
  * more. */
 #if defined(__GNUC__) && __GNUC__ == 12 && !defined(__clang__)
 enum { FIGURES_HOLD = 1 };
@@ -95,20 +95,20 @@ static const struct {
     size_t bytes;
     size_t measured;
 } calls[] = {
-    {"sizes", call_sizes, FUNNELIVY_SMALL_STACK_BYTES, 500},
-    {"columns", call_columns, FUNNELIVY_SMALL_STACK_BYTES, 500},
-    {"window", call_window, FUNNELIVY_SMALL_STACK_BYTES, 500},
-    {"quality", call_quality, FUNNELIVY_SMALL_STACK_BYTES, 500},
-    {"edge", call_edge, FUNNELIVY_SMALL_STACK_BYTES, 500},
+    {"sizes", call_sizes, FUNNELIVY_SMALL_STACK_BYTES, 499},
+    {"columns", call_columns, FUNNELIVY_SMALL_STACK_BYTES, 499},
+    {"window", call_window, FUNNELIVY_SMALL_STACK_BYTES, 499},
+    {"quality", call_quality, FUNNELIVY_SMALL_STACK_BYTES, 499},
+    {"edge", call_edge, FUNNELIVY_SMALL_STACK_BYTES, 499},
     {"find_sync", call_find_sync, FUNNELIVY_STACK_BYTES, 20400},
-    {"sync_window", call_sync_window, FUNNELIVY_SMALL_STACK_BYTES, 500},
-    {"has_sync", call_has_sync, FUNNELIVY_SMALL_STACK_BYTES, 500},
-    {"open", call_open, FUNNELIVY_SMALL_STACK_BYTES, 500},
+    {"sync_window", call_sync_window, FUNNELIVY_SMALL_STACK_BYTES, 499},
+    {"has_sync", call_has_sync, FUNNELIVY_SMALL_STACK_BYTES, 499},
+    {"open", call_open, FUNNELIVY_SMALL_STACK_BYTES, 499},
     {"feed", call_feed, FUNNELIVY_STACK_BYTES, 43600},
-    {"read", call_read, FUNNELIVY_SMALL_STACK_BYTES, 500},
-    {"write_card", call_write_card, FUNNELIVY_SMALL_STACK_BYTES, 500},
-    {"read_card", call_read_card, FUNNELIVY_SMALL_STACK_BYTES, 500},
-    {"session_card", call_session_card, FUNNELIVY_SMALL_STACK_BYTES, 500},
+    {"read", call_read, FUNNELIVY_SMALL_STACK_BYTES, 499},
+    {"write_card", call_write_card, FUNNELIVY_SMALL_STACK_BYTES, 499},
+    {"read_card", call_read_card, FUNNELIVY_SMALL_STACK_BYTES, 499},
+    {"session_card", call_session_card, FUNNELIVY_SMALL_STACK_BYTES, 499},
 };
 
 /* ---- the stack */
@@ -178,10 +178,10 @@ void test_stack(int print) {
     spectrum[54] = 1.0f;
     for (i = 0; i < sizeof calls / sizeof calls[0]; i++) {
         check(try_stack(calls[i].call, calls[i].bytes, &depth) == 0, calls[i].name);
-        check(!FIGURES_HOLD || depth <= calls[i].measured, "more stack than the header says");
-        if (print) {
+        if (print || (FIGURES_HOLD && depth > calls[i].measured)) {
             printf("%s: %zu bytes of stack\n", calls[i].name, depth);
         }
+        check(!FIGURES_HOLD || depth <= calls[i].measured, "the stack that the header says");
     }
     /* The guard page is there. */
     CHECK(try_stack(call_feed, 32768, &depth) == -1);
