@@ -169,7 +169,7 @@ fn main(rt: HostRuntime) -> io::Result<()> {
         "write_refused_12",
         "write_refused_14",
     ];
-    replay::run(&rt, rt.alloc(), &kinds, LIMIT, |mut case: Case| {
+    replay::run_limited(&rt, rt.alloc(), &kinds, LIMIT, |mut case: Case| {
         let kind = kind(&case);
         let right = is_right(&mut case);
         Ok(Verdict { kind, right })

@@ -76,7 +76,7 @@ fn main(rt: HostRuntime) -> io::Result<()> {
         "sync_window",
         "has_sync_at",
     ];
-    replay::run(&rt, alloc, &kinds, LIMIT, |case: Case| {
+    replay::run_limited(&rt, alloc, &kinds, LIMIT, |case: Case| {
         let right = is_right(&case, alloc)?;
         Ok(Verdict {
             kind: case.op,

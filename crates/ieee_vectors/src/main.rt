@@ -40,7 +40,7 @@ fn main(rt: HostRuntime) -> io::Result<()> {
         "to_f64",
         "mul_add",
     ];
-    replay::run(
+    replay::run_limited(
         &rt,
         rt.alloc(),
         &kinds,

@@ -68,7 +68,7 @@ fn is_right(vector: Vector) -> bool {
 }
 
 fn main(rt: HostRuntime) -> io::Result<()> {
-    replay::run(&rt, rt.alloc(), &[], replay::NO_PAYLOAD, |vector: Vector| {
+    replay::run_limited(&rt, rt.alloc(), &[], replay::NO_PAYLOAD, |vector: Vector| {
         Ok(Verdict {
             kind: vector.op,
             right: is_right(vector),

@@ -75,7 +75,7 @@ fn main(rt: HostRuntime) -> io::Result<()> {
         "sync_quality",
         "falling_edge_from_x_acc",
     ];
-    replay::run(&rt, alloc, &kinds, LIMIT, |case: Case| {
+    replay::run_limited(&rt, alloc, &kinds, LIMIT, |case: Case| {
         Ok(Verdict {
             kind: case.op,
             right: is_right(&case, alloc)?,

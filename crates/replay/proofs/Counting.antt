@@ -1,5 +1,5 @@
 -- One more of a kind. Assumes nothing.
-use Rattle.std.proofs.Common.{rules, ◌≡◌, ℕ, zero, suc, ◌<◌, ◌≤◌, List, [], ◌∷◌, length, take, set, get_or, refl, ap, ◌∙◌}
+use Rattle.std.proofs.Common.{rules, ◌≡◌, ℕ, zero, suc, ◌<◌, ◌≤◌, List, [], ◌∷◌, length, take, set, map, get_or, refl, ap, ◌∙◌}
 use Rattle.replay.specs.Counts.{more_by, more_of}
 
 pub one_more_of : {A : Type 0} (k : ℕ) (kinds : List (A × ℕ)) (d : A × ℕ) → k < length kinds → set kinds k ((get_or kinds k d).0, more_by 1 (get_or kinds k d).1) ≡ more_of k kinds
@@ -27,3 +27,10 @@ one_more_named n k kinds d h = ap (λ l. take n l) (one_more_of k kinds d h) ∙
 
 pub none_more_named : {A : Type 0} (n k : ℕ) (kinds : List (A × ℕ)) → length kinds ≤ k → take n kinds ≡ more_of k (take n kinds)
 none_more_named n k kinds h = ap (λ l. take n l) (none_more k kinds h) ∙ taken n k kinds
+
+-- one more of a kind changes no name
+pub same_names : {A : Type 0} (k : ℕ) (kinds : List (A × ℕ)) → map (λ kind. kind.0) (more_of k kinds) ≡ map (λ kind. kind.0) kinds
+unfolding more_of
+same_names k [] = refl
+same_names zero (kind ∷ kinds) = refl
+same_names (suc k) (kind ∷ kinds) = ap (λ l. kind.0 ∷ l) (same_names k kinds)

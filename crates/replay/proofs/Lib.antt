@@ -3,3 +3,4 @@ mod Counting
 mod Filling
 mod Naming
 mod Runs
+mod Wrapping

@@ -1,5 +1,6 @@
 -- Counts of 64 bits. Definitions only.
-use Rattle.std.specs.Prelude.{ℕ, zero, suc, ◌+◌, ◌%◌, ◌^◌, List, [], ◌∷◌}
+use Rattle.std.specs.Prelude.{ℕ, zero, suc, ◌≡◌, ◌+◌, ◌%◌, ◌^◌, List, [], ◌∷◌, map, take}
+use Rattle.replay.specs.declared.tally.Tally.{Tally}
 
 -- n more, of which 64 bits are kept
 abbrev pub more_by : ℕ → ℕ → ℕ
@@ -10,3 +11,7 @@ unfoldable pub more_of : {A : Type 0} → ℕ → List (A × ℕ) → List (A ×
 more_of k [] = []
 more_of zero ((name, n) ∷ kinds) = (name, more_by 1 n) ∷ kinds
 more_of (suc k) (kind ∷ kinds) = kind ∷ more_of k kinds
+
+-- the kinds have the names that they had
+abbrev pub KeepsNames : Tally → Tally → Type 0
+KeepsNames before after = map (λ kind. kind.0) (take after.named after.kinds) ≡ map (λ kind. kind.0) (take before.named before.kinds)

@@ -1,5 +1,5 @@
 -- What is read of a file's known bytes. Definitions only.
-use Rattle.std.specs.Prelude.{◌≡◌, ℕ, ◌<◌, ◌≤◌, List, length, Option, None, Some, vec_len, Vec}
+use Rattle.std.specs.Prelude.{◌≡◌, ℕ, ◌<◌, ◌≤◌, List, length, Option, None, Some, Result, Ok, vec_len, Vec}
 use Rattle.std.specs.Io.KnownBytes.{Consumes, IsAtEnd}
 use Rattle.words.specs.Words.{little_endian}
 use Rattle.replay.specs.declared.Fault.{Fault}
@@ -27,3 +27,9 @@ IsPayloadRead n limit before after (Some v) = (n ≤ limit.most) × (vec_len v �
 abbrev pub IsCutAtPayload : ℕ → Limit → Option (List ℕ) → Option (List ℕ) → Fault → Type 0
 IsCutAtPayload n limit before after Cut = (limit.most < n) × (limit.longer ≡ Longer.Cut) × (after ≡ before)
 IsCutAtPayload n limit before after (Unread error) = n ≤ limit.most
+
+-- a record begins with the word that is its operation, and is what its trait says of one that is read for that operation. There is none
+-- only where the file was at its end
+abbrev pub IsRecordRead : {A : Type 0} → (ℕ → Result A Fault → Type 0) → Option (List ℕ) → Option A → Type 0
+IsRecordRead gives before None = IsAtEnd before
+IsRecordRead gives before (Some x) = (op : ℕ) × (after : Option (List ℕ)) × IsWordRead before after (Some op) × gives op (Ok x)

@@ -7,10 +7,12 @@
 pub mod payload;
 pub mod tally;
 
-ghost use Rattle.std.specs.Prelude.{◌≡◌, ◌≤◌, length, take, ◌<◌, IfErr, IfOk, vec_len};
+ghost use Rattle.std.specs.Prelude.{◌≡◌, ◌≤◌, ℕ, length, take, ◌<◌, IfErr, IfOk, IsSome, Result, Ok, ⊤, vec_len};
 ghost use Rattle.std.specs.Io.KnownBytes.{Consumes, IsAtEnd};
-ghost use Rattle.replay.specs.Reading.{IsWordRead, IsCutAtEnd, IsPayloadRead, IsCutAtPayload};
+ghost use Rattle.replay.specs.Reading.{IsWordRead, IsCutAtEnd, IsPayloadRead, IsCutAtPayload, IsRecordRead};
+ghost use Rattle.replay.specs.declared.Fault.{Fault};
 ghost use Rattle.replay.specs.declared.Fault.TheVariants.{Unread};
+ghost use Rattle.replay.specs.Counts.{KeepsNames};
 ghost use Rattle.replay.specs.Optional.{optional_of, has_bits_or_none};
 
 use std::alloc::{AllocError, Global};
@@ -30,7 +32,8 @@ pub struct Vector {
     pub expected: u64,
 }
 
-// A long record. It has no payload where the file does not hold that whole, or where it is longer than the program reads.
+// A long record. It has its payload where it is read whole (`Record`). Up to a limit (`LimitedRecord`) it has none where the file does not
+// hold that whole, or where it is longer than the program reads.
 #[derive(Drop)]
 pub struct Case {
     pub op: u64,
@@ -91,17 +94,55 @@ impl From<AllocError> for Fault {
 
 // A record of a vector file, which begins with its operation.
 pub trait Record: Sized + Drop {
+    // What with_rest gives for an operation, beyond its type. By default nothing is said.
+    ghost with_rest_gives: { ℕ → Result Self Fault → Type 0 } = { λ op result. ⊤ };
+
     // The record of operation `op`, of which the file has the rest.
-    fn with_rest<R: Read>(
+    fn with_rest<R: Read>(op: u64, file: &mut R, alloc: Global) -> Result<Self, Fault>
+        ensures { with_rest_gives op result };
+}
+
+impl Record for Vector {
+    ghost with_rest_gives = { λ op result. IfOk result (λ vector. vector.op ≡ op) };
+
+    fn with_rest<R: Read>(op: u64, file: &mut R, alloc: Global) -> Result<Vector, Fault> {
+        Vector::with_rest_limited(op, file, NO_PAYLOAD, alloc)
+    }
+}
+
+impl Record for Case {
+    ghost with_rest_gives = { λ op result. IfOk result (λ case. (case.op ≡ op) × IsSome case.payload) };
+
+    // Its payload, too, has to be there, or the record is cut.
+    fn with_rest<R: Read>(op: u64, file: &mut R, alloc: Global) -> Result<Case, Fault> {
+        let case = Case::with_rest_limited(op, file, ANY_PAYLOAD, alloc)?;
+        if case.payload.is_some() {
+            Ok(case)
+        } else {
+            Err(Fault::Cut)
+        }
+    }
+}
+
+// A record of a vector file of which the program says how long a payload it reads.
+pub trait LimitedRecord: Sized + Drop {
+    // As in `Record`.
+    ghost with_rest_limited_gives: { ℕ → Result Self Fault → Type 0 } = { λ op result. ⊤ };
+
+    // The record of operation `op`, of which the file has the rest.
+    fn with_rest_limited<R: Read>(
         op: u64,
         file: &mut R,
         limit: Limit,
         alloc: Global,
-    ) -> Result<Self, Fault>;
+    ) -> Result<Self, Fault>
+        ensures { with_rest_limited_gives op result };
 }
 
-impl Record for Vector {
-    fn with_rest<R: Read>(
+impl LimitedRecord for Vector {
+    ghost with_rest_limited_gives = { λ op result. IfOk result (λ vector. vector.op ≡ op) };
+
+    fn with_rest_limited<R: Read>(
         op: u64,
         file: &mut R,
         _limit: Limit,
@@ -117,8 +158,10 @@ impl Record for Vector {
     }
 }
 
-impl Record for Case {
-    fn with_rest<R: Read>(
+impl LimitedRecord for Case {
+    ghost with_rest_limited_gives = { λ op result. IfOk result (λ case. case.op ≡ op) };
+
+    fn with_rest_limited<R: Read>(
         op: u64,
         file: &mut R,
         limit: Limit,
@@ -138,6 +181,23 @@ impl Record for Case {
             z,
             payload,
         })
+    }
+}
+
+// A record that is read whole, whatever the limit: `run`, `each_record` and `next_record` are the limited ones over it.
+#[derive(Drop)]
+struct Whole<T>(T);
+
+impl<T: Record> LimitedRecord for Whole<T> {
+    ghost with_rest_limited_gives = { λ op result. IfOk result (λ whole. T.with_rest_gives op (Ok whole.0)) };
+
+    fn with_rest_limited<R: Read>(
+        op: u64,
+        file: &mut R,
+        _limit: Limit,
+        alloc: Global,
+    ) -> Result<Whole<T>, Fault> {
+        Ok(Whole(T::with_rest(op, file, alloc)?))
     }
 }
 
@@ -190,6 +250,12 @@ fn word_within<R: Read>(file: &mut R) -> Result<u64, Fault> {
 // No record has more bytes behind it. One that says so is taken as cut.
 const MOST_BYTES: u64 = 262144;
 
+// Any payload that a record has.
+const ANY_PAYLOAD: Limit = Limit {
+    most: MOST_BYTES,
+    longer: Longer::Cut,
+};
+
 // The next n bytes of a record that has begun.
 pub fn bytes_within<R: Read>(file: &mut R, n: u64, alloc: Global) -> Result<Vec<u8>, Fault>
     ensures bytes { IfOk result (λ v. (vec_len v ≡ n) × Consumes (R.remaining file.old) (R.remaining file.new) v.items) }
@@ -234,6 +300,25 @@ pub fn run<T: Record, R: Files + Print + Eprint, F: FnMut(T) -> io::Result<Verdi
     rt: &R,
     alloc: Global,
     kinds: &[&str],
+    answer: F,
+) -> io::Result<()>
+    requires { F.IsAlwaysCallable answer }
+{
+    let mut answer = answer;
+    run_limited(
+        rt,
+        alloc,
+        kinds,
+        NO_PAYLOAD,
+        |Whole(record): Whole<T>| answer(record),
+    )
+}
+
+// The same with a limit.
+pub fn run_limited<T: LimitedRecord, R: Files + Print + Eprint, F: FnMut(T) -> io::Result<Verdict>>(
+    rt: &R,
+    alloc: Global,
+    kinds: &[&str],
     limit: Limit,
     answer: F,
 ) -> io::Result<()>
@@ -243,7 +328,7 @@ pub fn run<T: Record, R: Files + Print + Eprint, F: FnMut(T) -> io::Result<Verdi
         return Ok(());
     };
     let mut tally = Tally::of(kinds);
-    each_record(file, alloc, limit, &mut tally, answer)?;
+    each_record_limited(file, alloc, limit, &mut tally, answer)?;
     tally.report(rt)
 }
 
@@ -251,16 +336,36 @@ pub fn run<T: Record, R: Files + Print + Eprint, F: FnMut(T) -> io::Result<Verdi
 pub fn each_record<T: Record, F: FnMut(T) -> io::Result<Verdict>>(
     file: impl Read + Drop,
     alloc: Global,
+    tally: &mut Tally<'_>,
+    mut answer: F,
+) -> io::Result<()>
+    requires { F.IsAlwaysCallable answer }
+    ensures { KeepsNames tally.old tally.new }
+{
+    each_record_limited(
+        file,
+        alloc,
+        NO_PAYLOAD,
+        tally,
+        |Whole(record): Whole<T>| answer(record),
+    )
+}
+
+// The same with a limit.
+pub fn each_record_limited<T: LimitedRecord, F: FnMut(T) -> io::Result<Verdict>>(
+    file: impl Read + Drop,
+    alloc: Global,
     limit: Limit,
     tally: &mut Tally<'_>,
     mut answer: F,
 ) -> io::Result<()>
     requires { F.IsAlwaysCallable answer }
+    ensures { KeepsNames tally.old tally.new }
 {
     let mut file = BufReader::new(alloc, file)?;
     // a count and no `while let`, the library's own form for a reader that may not end: no file has 2^64 records
     for _ in 0..u64::MAX {
-        match next_record(&mut file, limit, alloc) {
+        match next_record_limited(&mut file, limit, alloc) {
             Ok(Some(record)) => tally.count(answer(record)?),
             Ok(None) => return Ok(()),
             Err(Fault::Cut) => {
@@ -274,13 +379,23 @@ pub fn each_record<T: Record, F: FnMut(T) -> io::Result<Verdict>>(
 }
 
 // The next record, none at the file's end.
-pub fn next_record<T: Record, R: Read>(
+pub fn next_record<T: Record, R: Read>(file: &mut R, alloc: Global) -> Result<Option<T>, Fault>
+    ensures { IfOk result (IsRecordRead T.with_rest_gives (R.remaining file.old)) }
+{
+    let record = next_record_limited(file, NO_PAYLOAD, alloc)?;
+    Ok(record.map(|Whole(record)| record))
+}
+
+// The same with a limit.
+pub fn next_record_limited<T: LimitedRecord, R: Read>(
     file: &mut R,
     limit: Limit,
     alloc: Global,
-) -> Result<Option<T>, Fault> {
+) -> Result<Option<T>, Fault>
+    ensures { IfOk result (IsRecordRead T.with_rest_limited_gives (R.remaining file.old)) }
+{
     match next_word(file)? {
-        Some(op) => Ok(Some(T::with_rest(op, file, limit, alloc)?)),
+        Some(op) => Ok(Some(T::with_rest_limited(op, file, limit, alloc)?)),
         None => Ok(None),
     }
 }
@@ -305,8 +420,12 @@ pub fn is_recorded(x: Option<f64>, word: u64) -> bool
 
 #[cfg(test)]
 mod tests {
-    use super::{Case, Limit, Longer, NO_PAYLOAD, Vector, bytes_within, each_record, next_record};
+    use super::{
+        Case, Limit, Longer, NO_PAYLOAD, Vector, bytes_within, each_record, each_record_limited,
+        next_record, next_record_limited, run,
+    };
     use crate::tally::{Tally, Verdict};
+    use std::fs;
     use std::test::Fail;
 
     // Two short records, and the beginning of a third.
@@ -332,7 +451,8 @@ mod tests {
         assert_eq!(rt; bytes.as_slice(), [1, 2].as_slice());
 
         let mut file = SHORT.as_slice();
-        let Ok(Some(record)) = next_record::<Vector, _>(&mut file, NO_PAYLOAD, rt.alloc()) else {
+        let Ok(Some(record)) = next_record_limited::<Vector, _>(&mut file, NO_PAYLOAD, rt.alloc())
+        else {
             panic!(rt; "no short record");
         };
         let words = [record.op, record.a, record.b, record.c, record.expected];
@@ -343,7 +463,7 @@ mod tests {
             most: 3,
             longer: Longer::Cut,
         };
-        let Ok(Some(record)) = next_record::<Case, _>(&mut file, limit, rt.alloc()) else {
+        let Ok(Some(record)) = next_record_limited::<Case, _>(&mut file, limit, rt.alloc()) else {
             panic!(rt; "no long record");
         };
         let words = [
@@ -354,7 +474,7 @@ mod tests {
         assert_eq!(rt; payload.as_slice(), [8, 9, 10].as_slice());
         assert!(rt;
             matches!(
-                next_record::<Case, _>(&mut file, limit, rt.alloc()),
+                next_record_limited::<Case, _>(&mut file, limit, rt.alloc()),
                 Ok(None)
             )
         );
@@ -364,7 +484,7 @@ mod tests {
     #[test]
     fn records_are_tallied(rt: HostRuntime) -> Result<(), Fail> {
         let mut tally = Tally::of(&[""; 12]);
-        each_record(
+        each_record_limited(
             SHORT.as_slice(),
             rt.alloc(),
             NO_PAYLOAD,
@@ -396,7 +516,7 @@ mod tests {
         ] {
             let mut tally = Tally::of(&[""; 12]);
             let limit = Limit { most, longer };
-            each_record(
+            each_record_limited(
                 &LONG[..length],
                 rt.alloc(),
                 limit,
@@ -412,6 +532,60 @@ mod tests {
             let (_, of_kind_3) = tally.kinds[3];
             assert_eq!(rt; of_kind_3, counted);
         }
+        Ok(())
+    }
+
+    // Records that are read whole. One whose payload the file does not hold whole is cut, and counts as no kind.
+    #[test]
+    fn whole_records_are_replayed(rt: HostRuntime) -> Result<(), Fail> {
+        let mut file = SHORT.as_slice();
+        let Ok(Some(record)) = next_record::<Vector, _>(&mut file, rt.alloc()) else {
+            panic!(rt; "no short record");
+        };
+        assert_eq!(rt; [record.op, record.expected], [3, 5]);
+
+        let mut file = LONG.as_slice();
+        let Ok(Some(record)) = next_record::<Case, _>(&mut file, rt.alloc()) else {
+            panic!(rt; "no long record");
+        };
+        assert_eq!(rt; record.op, 3);
+        let payload = record.payload.ok_or("no payload")?;
+        assert_eq!(rt; payload.as_slice(), [8, 9, 10].as_slice());
+        assert!(rt; matches!(next_record::<Case, _>(&mut file, rt.alloc()), Ok(None)));
+
+        for (length, right, counted) in [(67, true, 1), (66, false, 0)] {
+            let mut tally = Tally::of(&[""; 4]);
+            each_record(&LONG[..length], rt.alloc(), &mut tally, |record: Case| {
+                Ok(Verdict {
+                    kind: record.op,
+                    right: record.payload.is_some(),
+                })
+            })?;
+            assert_eq!(rt; (tally.seen, tally.wrong), (1, u64::from(!right)));
+            let (_, of_kind_3) = tally.kinds[3];
+            assert_eq!(rt; of_kind_3, counted);
+        }
+        Ok(())
+    }
+
+    // The same from the file that `run` opens.
+    #[test]
+    fn file_is_replayed(rt: HostRuntime) -> Result<(), Fail> {
+        fs::write(&rt, "vectors", SHORT.as_slice())?;
+        let mut ops = [0; 2];
+        let mut seen = 0;
+        run(&rt, rt.alloc(), &[], |record: Vector| {
+            if let Some(op) = ops.get_mut(seen) {
+                *op = record.op;
+            }
+            seen = seen.wrapping_add(1);
+            Ok(Verdict {
+                kind: record.op,
+                right: true,
+            })
+        })?;
+        fs::remove_file(&rt, "vectors")?;
+        assert_eq!(rt; (ops, seen), ([3, 2], 2));
         Ok(())
     }
 }

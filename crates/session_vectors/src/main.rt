@@ -71,7 +71,7 @@ fn main(rt: HostRuntime) -> io::Result<()> {
     let alloc = rt.alloc();
     let replayed = Replayed::new(Memory::new(MOST, alloc)?);
     let mut calls = Calls { replayed, alloc };
-    replay::run(&rt, alloc, &["open", "feed", "read"], LIMIT, |case: Case| {
+    replay::run_limited(&rt, alloc, &["open", "feed", "read"], LIMIT, |case: Case| {
         Ok(Verdict {
             kind: case.op,
             right: calls.is_right(&case)?,

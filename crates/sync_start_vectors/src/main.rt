@@ -163,13 +163,19 @@ fn main(rt: HostRuntime) -> io::Result<()> {
     let mut tally = Tally::of(&["evaluate", "search", "first_pulsed_line"]);
     for path in ["vectors", "inner"] {
         match replay::opened(&rt, path) {
-            Some(file) => replay::each_record(file, alloc, LIMIT, &mut tally, |case: Case| {
-                let right = is_right(&case, alloc)?;
-                Ok(Verdict {
-                    kind: case.op,
-                    right,
-                })
-            })?,
+            Some(file) => replay::each_record_limited(
+                file,
+                alloc,
+                LIMIT,
+                &mut tally,
+                |case: Case| {
+                    let right = is_right(&case, alloc)?;
+                    Ok(Verdict {
+                        kind: case.op,
+                        right,
+                    })
+                },
+            )?,
             None => tally.count_cut(),
         }
     }

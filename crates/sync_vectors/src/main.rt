@@ -49,7 +49,7 @@ fn main(rt: HostRuntime) -> io::Result<()> {
     let mut img = vec![in alloc; 7u8; limits::IMG_BYTES]?;
     let mut votes = vec![in alloc; 7u16; limits::VOTE_CELLS]?;
     let kinds = ["no_slant", "slant"];
-    replay::run(&rt, alloc, &kinds, LIMIT, |case: Case| {
+    replay::run_limited(&rt, alloc, &kinds, LIMIT, |case: Case| {
         Ok(Verdict {
             kind: u64::from(replay::optional(case.y).is_some()),
             right: is_right(&case, &mut img, &mut votes, alloc)?,
